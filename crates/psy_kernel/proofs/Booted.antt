@@ -8,14 +8,15 @@ use Rattle.std.proofs.lemmas.List.Elements.{All-contains, Contains-get_or, filte
 use Rattle.std.proofs.lemmas.List.FromFn.{get_or-map-range_with_len, length-map-range_with_len, map-range_with_len_more}
 use Rattle.std.proofs.lemmas.List.Kept.{AllPairs-filter}
 use Rattle.psy_budget.specs.declared.charge.Stall.{Stall}
-use Rattle.psy_budget.specs.Charges.{Charged, StallsRise}
+use Rattle.psy_budget.specs.Charges.{StallsRise}
 use Rattle.psy_code.specs.declared.code.Code.{Code}
-use Rattle.psy_machine.specs.Stepping.{AgentMachine, IsNew, IsOf}
+use Rattle.psy_machine.specs.Stepping.{IsNew, IsOf}
 use Rattle.psy_base.specs.Extremes.{least_of}
 use Rattle.psy_history.specs.Actions.{System}
 use Rattle.psy_history.specs.Summary.{added_to, numbers_in}
 use Rattle.psy_dates.specs.declared.plan.Plan.{Plan}
 use Rattle.psy_kernel.specs.declared.engine.Figure.{Figure}
+use Rattle.psy_kernel.specs.declared.engine.Runner.{Runner}
 use Rattle.psy_history.specs.declared.told.Order.{Order}
 use Rattle.psy_history.specs.declared.told.Script.{Script}
 use Rattle.psy_tree.specs.declared.unit.Unit.{Unit as Whole}
@@ -88,8 +89,8 @@ in_force_at_first orders first false rise head e =
 
 -- ---- an agent that hasn't started
 
-pub first_stands : (s : System) (code : Code) (until agent : ℕ) (charge : Charged) (machine : AgentMachine) (waits : Option ℕ) (figure : Figure) → charge ≡ record { stalls = s.stalls agent; started = 0; budget = 0; consumed = 0; paid = 0 } → IsNew code agent machine → IsOf code machine → waits ≡ None → figure ≡ record { count = 0; slack = None } → s.opening.count agent ≡ 0 → s.opening.slack agent ≡ None → AgentStands s code [] until agent [] charge machine waits figure
-first_stands s code until agent charge machine waits figure charged new of_code idle empty uncounted unslacked = record {
+pub first_stands : (s : System) (code : Code) (until agent : ℕ) (runner : Runner) (waits : Option ℕ) → runner.charge ≡ record { stalls = s.stalls agent; started = 0; budget = 0; consumed = 0; paid = 0 } → IsNew code agent runner.machine → IsOf code runner.machine → waits ≡ None → runner.figure ≡ record { count = 0; slack = None } → s.opening.count agent ≡ 0 → s.opening.slack agent ≡ None → AgentStands s code [] until agent [] runner waits
+first_stands s code until agent runner waits charged new of_code idle empty uncounted unslacked = record {
   charged = λ loud. charged;
   is_agent = new.2;
   of_code = of_code;

@@ -17,7 +17,7 @@ use Rattle.psy_kernel.specs.Cycles.{IsNear, reach_by}
 use Rattle.psy_kernel.specs.Looking.{KeepsRest, window_of}
 use Rattle.psy_kernel.specs.Seeing.{is_mine}
 use Rattle.psy_kernel.specs.Standing.{charge_after}
-use Rattle.psy_kernel.specs.Stretches.{AfterCycles, AllPay, AreReaches, HasDoneIn, IsOnWay, MayGoOn, gone_by}
+use Rattle.psy_kernel.specs.Stretches.{AfterCycles, AllPay, AreReaches, HasDoneIn, IsOnWay, MayGoOn, ReachOn, gone_by}
 use Rattle.psy_kernel.proofs.OnTheWay as on
 
 -- What is given of an action that had so many cycles, with what `Holds` says
@@ -38,8 +38,7 @@ pub record AreKept (Holds : System → Action → ℕ → Type 0) (plan : Plan) 
   pub on_way : (opening : Opening) (inputs : List (List ℤ)) (stalls : ℕ → List Stall) (r : Action) (had : ℕ) → IsMeant Holds plan start date most first before opening inputs stalls r had
       → IsOnWay (opened_of plan opening inputs stalls) plan.code r (had + n) machine now.outbox.now.sends now.taken.now.items
   pub reached : (opening : Opening) (inputs : List (List ℤ)) (stalls : ℕ → List Stall) (r : Action) (had : ℕ) → IsMeant Holds plan start date most first before opening inputs stalls r had
-      → (reach : ℕ → ℕ → Option ℕ) → AreReaches (opened_of plan opening inputs stalls) plan.code r had (had + most) date reach
-      → (variable : ℕ) → slice_get reaches variable ≡ Some (reach had variable) → slice_get reaches' variable ≡ Some (reach (had + n) variable)
+      → ReachOn (opened_of plan opening inputs stalls) plan.code r had most date n reaches reaches'
 
 module _ (Holds : System → Action → ℕ → Type 0) (plan : Plan) (start date most : ℕ) (first : AgentMachine) (before : Eyes) (reaches : List (Option ℕ)) where
   -- before the first one
@@ -141,8 +140,7 @@ module _ {plan : Plan} {start date most : ℕ} {first : AgentMachine} {before : 
         (noted : (opening : Opening) (inputs : List (List ℤ)) (stalls : ℕ → List Stall) (variable : ℕ) (n : Option ℕ) → slice_get reaches' variable ≡ Some n → slice_get reaches'' variable ≡ Some (reach_by (opened_of plan opening inputs stalls) variable start date after.noted n)) where
       -- the rings are reached for as the look says
       pub reached_now : (opening : Opening) (inputs : List (List ℤ)) (stalls : ℕ → List Stall) (r : Action) (had : ℕ) → IsMeant (Pays most) plan start date most first before opening inputs stalls r had
-          → (reach : ℕ → ℕ → Option ℕ) → AreReaches (opened_of plan opening inputs stalls) plan.code r had (had + most) date reach
-          → (variable : ℕ) → slice_get reaches variable ≡ Some (reach had variable) → slice_get reaches'' variable ≡ Some (reach (had + (n + 1)) variable)
+          → ReachOn (opened_of plan opening inputs stalls) plan.code r had most date (n + 1) reaches reaches''
       reached_now opening inputs stalls r had m reach are variable at =
           let so : suc (had + n) ≡ had + (n + 1) = omega arith in
           noted opening inputs stalls variable (reach (had + n) variable) (kept.reached opening inputs stalls r had m reach are variable at)

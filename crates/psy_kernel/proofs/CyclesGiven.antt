@@ -1,18 +1,16 @@
 -- A processor after the cycles in a row that its chosen agent gets, or nobody.
 use Rattle.std.proofs.Common.{◌≡◌, ◌≢◌, Vec, Global, refl, sym, ap, ◌∙◌, subst, inl, inr, arith}
-use Rattle.std.specs.Prelude.{ℕ, suc, ◌+◌, ◌-◌, ◌*◌, ◌<◌, ◌≤◌, Bool, true, false, List, ◌∷◌, length, get_or, Option, Some, None, slice_get, slice_set, ℤ}
+use Rattle.std.specs.Prelude.{ℕ, suc, ◌+◌, ◌-◌, ◌*◌, ◌<◌, ◌≤◌, Bool, true, false, if◌then◌else◌, List, ◌∷◌, length, get_or, Option, Some, None, slice_get, slice_set, ℤ}
 use Rattle.std.specs.List.{All, Contains}
 use Rattle.std.proofs.lemmas.Bool.{cases_eq, true≢false}
 use Rattle.std.proofs.lemmas.List.Elements.{All-contains, All-weaker}
 use Rattle.std.proofs.lemmas.Option.{same_Some, slice_get-get_or, slice_get_within}
-use Rattle.psy_budget.specs.Charges.{Charged}
 use Rattle.psy_dates.specs.declared.seat.Seat.{Seat}
 use Rattle.psy_dates.specs.declared.movers.Movers.{Movers}
 use Rattle.psy_dates.specs.declared.shared.Shared.{Shared}
 use Rattle.psy_dates.specs.Outboxes.{Outboxed}
 use Rattle.psy_dates.specs.Standing.{dates_done}
 use Rattle.psy_history.specs.Regular.{AreRegular, IsLawful, IsRegular}
-use Rattle.psy_machine.specs.Stepping.{AgentMachine}
 use Rattle.psy_history.specs.Actions.{Action}
 use Rattle.psy_history.specs.History.{history}
 use Rattle.psy_history.specs.Processors.{processor_at, served}
@@ -24,14 +22,14 @@ use Rattle.psy_tree.specs.declared.unit.StreamDecl.{StreamDecl}
 use Rattle.psy_tree.specs.declared.unit.VarDecl.{VarDecl}
 use Rattle.psy_kernel.specs.Cycles.{ActsIn, AreOver, AreQueuesOf, AreRingsOf, BoxStands, GetsCycle, IsGiven, LooksBack, OneStands}
 use Rattle.psy_kernel.specs.Engines.{IsOverOn}
-use Rattle.psy_kernel.specs.declared.engine.Figure.{Figure}
 use Rattle.psy_kernel.specs.declared.engine.Engine.TheInside.{Inside}
+use Rattle.psy_kernel.specs.declared.engine.Runner.{Runner}
 use Rattle.psy_kernel.specs.declared.engine.Server.{Server}
 use Rattle.psy_history.specs.declared.told.Order.{Order}
 use Rattle.psy_history.specs.Scripts.{stalls_of}
 use Rattle.psy_kernel.specs.Seeing.{sight_in}
 use Rattle.psy_kernel.specs.Standing.{DeedsStand, EngineStands, HasDone, IsChosen, ServerStands, charge_after, state_of, waits_on}
-use Rattle.psy_kernel.specs.Stretches.{MayLast, given_on, given_to}
+use Rattle.psy_kernel.specs.Stretches.{Lasts, MayLast, given_on, given_to}
 use Rattle.psy_kernel.proofs.Engines.{HaveGone, IsDue, gone_turns, opening_in, order_in, order_until, other_waits, own_turns, own_waits, parts_in, run_in, stands_gone, turns_in, turns_with, waits_there}
 use Rattle.psy_kernel.proofs.GivenCycles.{StaysSo, idle_reach, in_a_row, missed_all, own_given, own_stay, same_stays, was_pending}
 use Rattle.psy_kernel.proofs.OtherAgents.{other_agent}
@@ -112,7 +110,7 @@ module _ (k : Inside) (is : EngineStands k) (processor : ℕ) (server : Server) 
     idle_row j less =
         in_row None
         (ap (λ m. turn_of (soonest (pending (served k.plan.unit processor order) all (history (run_in k) m)))) (sym inside.0)
-        ∙ ap turn_of (nobody_soonest (run_in k) k.plan.sizes k.plan.code k.plan.until (turns_in k) dates k.shared k.machines.items k.charges.items (waits_on k.plan.unit k.servers.items) k.figures.items (parts_in k is) lawful processor server.ready stands.waiting all waits stands.own mine over_now order nobody))
+        ∙ ap turn_of (nobody_soonest (run_in k) k.plan.sizes k.plan.code k.plan.until (turns_in k) dates k.shared k.runners.items (waits_on k.plan.unit k.servers.items) (parts_in k is) lawful processor server.ready stands.waiting all waits stands.own mine over_now order nobody))
         j (omega (arith, high, less)) (λ i below. order_until k is processor server d.there n ahead i (omega (arith, below, less))) (λ i below. idle_stay i)
 
     module _ (next : Server) (servers : List Server) (gone : HaveGone k processor server next n servers) (ready_is : next.ready ≡ server.ready) where
@@ -127,10 +125,10 @@ module _ (k : Inside) (is : EngineStands k) (processor : ℕ) (server : Server) 
 
       pub idle_stands : (moved : Vec Server Global) → moved.items ≡ servers → EngineStands (record k { servers = moved })
       idle_stands moved moved_is =
-          stands_gone k processor server next n servers gone is d high moved k.shared.movers k.shared.seats k.shared.ended k.shared.outboxes k.shared.taken k.machines k.charges k.figures k.reaches moved_is
-          (waits_alike (run_in k) k.plan.sizes k.plan.code k.plan.until (turns_with k servers) dates k.shared k.machines.items k.charges.items (waits_on k.plan.unit k.servers.items) k.figures.items
-          (alike (run_in k) k.plan.sizes k.plan.code k.plan.until (given_on k.plan.unit processor None n (turns_in k)) dates k.shared k.machines.items k.charges.items (waits_on k.plan.unit k.servers.items) k.figures.items
-          (idle (run_in k) k.plan.sizes k.plan.code k.plan.until (turns_in k) dates k.shared k.machines.items k.charges.items (waits_on k.plan.unit k.servers.items) k.figures.items (parts_in k is) processor n) (turns_with k servers) idle_turns)
+          stands_gone k processor server next n servers gone is d high moved k.shared.movers k.shared.seats k.shared.ended k.shared.outboxes k.shared.taken k.runners k.reaches moved_is
+          (waits_alike (run_in k) k.plan.sizes k.plan.code k.plan.until (turns_with k servers) dates k.shared k.runners.items (waits_on k.plan.unit k.servers.items)
+          (alike (run_in k) k.plan.sizes k.plan.code k.plan.until (given_on k.plan.unit processor None n (turns_in k)) dates k.shared k.runners.items (waits_on k.plan.unit k.servers.items)
+          (idle (run_in k) k.plan.sizes k.plan.code k.plan.until (turns_in k) dates k.shared k.runners.items (waits_on k.plan.unit k.servers.items) (parts_in k is) processor n) (turns_with k servers) idle_turns)
           (waits_on k.plan.unit servers) idle_waits)
           refl
           (λ variable m at. is.reached variable m at ∙ sym (idle_reach (run_in k) processor (turns_in k) (history (run_in k) dates) variable (λ ts. d.idle ts (history (run_in k) dates) processor variable) n)
@@ -145,10 +143,10 @@ module _ (k : Inside) (is : EngineStands k) (processor : ℕ) (server : Server) 
   module _ (agent : ℕ) (pick : IsPick server.ready order agent) where
     -- it is one of the processor's
     pub home : processor_at k.plan.unit agent ≡ processor
-    home = pick_home (run_in k) k.plan.sizes k.plan.code k.plan.until (turns_in k) dates k.shared k.machines.items k.charges.items (waits_on k.plan.unit k.servers.items) k.figures.items (parts_in k is) lawful processor server.ready stands.waiting all waits stands.own mine over_now order agent pick
+    home = pick_home (run_in k) k.plan.sizes k.plan.code k.plan.until (turns_in k) dates k.shared k.runners.items (waits_on k.plan.unit k.servers.items) (parts_in k is) lawful processor server.ready stands.waiting all waits stands.own mine over_now order agent pick
 
     pub known : agent < length k.plan.unit.agents
-    known = pick_known (run_in k) k.plan.sizes k.plan.code k.plan.until (turns_in k) dates k.shared k.machines.items k.charges.items (waits_on k.plan.unit k.servers.items) k.figures.items (parts_in k is) lawful processor server.ready stands.waiting all waits stands.own mine over_now order agent pick
+    known = pick_known (run_in k) k.plan.sizes k.plan.code k.plan.until (turns_in k) dates k.shared k.runners.items (waits_on k.plan.unit k.servers.items) (parts_in k is) lawful processor server.ready stands.waiting all waits stands.own mine over_now order agent pick
 
     -- the last action of the agent gets the next cycle
     pub record Takes (r : Action) (before : List Action) : Type 0 where
@@ -158,7 +156,7 @@ module _ (k : Inside) (is : EngineStands k) (processor : ℕ) (server : Server) 
 
     pub takes : (r : Action) × (before : List Action) × Takes r before
     takes =
-        let w = pick_soonest (run_in k) k.plan.sizes k.plan.code k.plan.until (turns_in k) dates k.shared k.machines.items k.charges.items (waits_on k.plan.unit k.servers.items) k.figures.items (parts_in k is) lawful processor server.ready stands.waiting all waits stands.own mine over_now order agent pick in (
+        let w = pick_soonest (run_in k) k.plan.sizes k.plan.code k.plan.until (turns_in k) dates k.shared k.runners.items (waits_on k.plan.unit k.servers.items) (parts_in k is) lawful processor server.ready stands.waiting all waits stands.own mine over_now order agent pick in (
           w.0,
           w.1,
           record {
@@ -200,10 +198,9 @@ module _ (k : Inside) (is : EngineStands k) (processor : ℕ) (server : Server) 
       looks = d.looks server.cycles agent r before (turns_in k) d.cycle (mine agent home ∙ ap (turns_of (run_in k) (order_in k) server.cycles) (sym home)) last t.pending
 
       -- what it has, and what it sees
-      module _ (now : ℕ) (now_is : now ≡ dates - 1) (machine : AgentMachine) (charge : Charged) (figure : Figure) (seat : Seat)
-          (m : slice_get k.machines.items agent ≡ Some machine) (c : slice_get k.charges.items agent ≡ Some charge) (f : slice_get k.figures.items agent ≡ Some figure) (x : slice_get k.shared.seats.items agent ≡ Some seat) where
-        one : OneStands (run_in k) k.plan.code (turns_in k agent) k.plan.until date agent (r ∷ before) charge machine deadline figure seat k.shared.ended.items
-        one = one_of (run_in k) k.plan.sizes k.plan.code k.plan.until (turns_in k) dates k.shared k.machines.items k.charges.items (waits_on k.plan.unit k.servers.items) k.figures.items (parts_in k is) date agent r before (last_date dates date inside.0) t.is_last machine charge figure seat m c f x
+      module _ (now : ℕ) (now_is : now ≡ dates - 1) (runner : Runner) (seat : Seat) (there : slice_get k.runners.items agent ≡ Some runner) (x : slice_get k.shared.seats.items agent ≡ Some seat) where
+        one : OneStands (run_in k) k.plan.code (turns_in k agent) k.plan.until date agent (r ∷ before) runner deadline seat k.shared.ended.items
+        one = one_of (run_in k) k.plan.sizes k.plan.code k.plan.until (turns_in k) dates k.shared k.runners.items (waits_on k.plan.unit k.servers.items) (parts_in k is) date agent r before (last_date dates date inside.0) t.is_last runner seat there x
 
         module _ (outbox : Outboxed) (o : slice_get k.shared.outboxes.items agent ≡ Some outbox) where
           -- what its action sees, and what it has done
@@ -218,16 +215,16 @@ module _ (k : Inside) (is : EngineStands k) (processor : ℕ) (server : Server) 
               (looks.acts k.shared.rings.items k.shared.queues.items k.shared.taken.items outbox (subst (λ n. AreRingsOf (run_in k) k.plan.sizes n k.shared.rings.items) inside.0 rings_stand) (subst (λ n. AreQueuesOf (run_in k) k.plan.sizes n k.shared.queues.items) inside.0 queues_stand)
               is.shared.taking size (subst (λ u. HasDone (run_in k) k.plan.code r (charge_after (run_in k) r u).paid outbox.sends k.shared.taken.items) (sym had) did)))
 
-          is_given : IsGiven k.plan (opening_in k) k.shared.inputs.lists (stalls_of k.script) (turns_in k agent) now server.cycles agent r before charge machine deadline figure seat k.shared.ended.items
+          is_given : IsGiven k.plan (opening_in k) k.shared.inputs.lists (stalls_of k.script) (turns_in k agent) now server.cycles agent r before runner deadline seat k.shared.ended.items
               (sight_in k.plan.unit k.shared.rings.items k.shared.queues.items agent seat.start now) k.shared.taken.items outbox
           is_given =
-              let given : (start : ℕ) → start ≡ r.start → IsGiven k.plan (opening_in k) k.shared.inputs.lists (stalls_of k.script) (turns_in k agent) date server.cycles agent r before charge machine deadline figure seat k.shared.ended.items
+              let given : (start : ℕ) → start ≡ r.start → IsGiven k.plan (opening_in k) k.shared.inputs.lists (stalls_of k.script) (turns_in k agent) date server.cycles agent r before runner deadline seat k.shared.ended.items
               (sight_in k.plan.unit k.shared.rings.items k.shared.queues.items agent start date) k.shared.taken.items outbox = λ start e. record {
                 gets = gets;
                 has = one;
                 acts = subst (λ n. ActsIn (run_in k) k.plan.code r (units r.agent r.number (turns_in k agent)) (sight_in k.plan.unit k.shared.rings.items k.shared.queues.items agent n date) k.shared.taken.items outbox) (sym e) acts;
               } in
-              subst (λ n. IsGiven k.plan (opening_in k) k.shared.inputs.lists (stalls_of k.script) (turns_in k agent) n server.cycles agent r before charge machine deadline figure seat k.shared.ended.items
+              subst (λ n. IsGiven k.plan (opening_in k) k.shared.inputs.lists (stalls_of k.script) (turns_in k agent) n server.cycles agent r before runner deadline seat k.shared.ended.items
               (sight_in k.plan.unit k.shared.rings.items k.shared.queues.items agent seat.start n) k.shared.taken.items outbox)
               (sym (now_is ∙ last_date dates date inside.0)) (given seat.start one.seated.start)
 
@@ -274,15 +271,14 @@ module _ (k : Inside) (is : EngineStands k) (processor : ℕ) (server : Server) 
             last (subst (λ ts. is_pending ts r ≡ true) (sym (own_gone j)) later)
 
         -- what it has, and what it sees with each of them
-        pub may_last : (now : ℕ) → now ≡ dates - 1 → (machine : AgentMachine) (charge : Charged) (figure : Figure) (seat : Seat)
-            → slice_get k.machines.items agent ≡ Some machine → slice_get k.charges.items agent ≡ Some charge → slice_get k.figures.items agent ≡ Some figure → slice_get k.shared.seats.items agent ≡ Some seat
+        pub may_last : (now : ℕ) → now ≡ dates - 1 → (runner : Runner) (seat : Seat) → slice_get k.runners.items agent ≡ Some runner → slice_get k.shared.seats.items agent ≡ Some seat
             → (outbox : Outboxed) → slice_get k.shared.outboxes.items agent ≡ Some outbox
-            → MayLast k.plan (opening_in k) k.shared.inputs.lists (stalls_of k.script) (turns_in k) now server.cycles agent most r before charge machine deadline figure seat k.shared.ended.items
+            → MayLast k.plan (opening_in k) k.shared.inputs.lists (stalls_of k.script) (turns_in k) (record { agent = agent; cycle = server.cycles; most = most; date = now }) r before runner deadline seat k.shared.ended.items
             k.shared.rings.items k.shared.queues.items k.shared.taken.items outbox
-        may_last now now_is machine charge figure seat m c f x outbox o =
+        may_last now now_is runner seat there x outbox o =
             let here : now ≡ date = on_date now now_is in
             record {
-              given = is_given now now_is machine charge figure seat m c f x outbox o;
+              given = is_given now now_is runner seat there x outbox o;
               ringed = subst (λ n. AreRingsOf (run_in k) k.plan.sizes n k.shared.rings.items) (inside.0 ∙ ap (λ n. n + 1) (sym here)) rings_stand;
               queued = subst (λ n. AreQueuesOf (run_in k) k.plan.sizes n k.shared.queues.items) (inside.0 ∙ ap (λ n. n + 1) (sym here)) queues_stand;
               counted = is.shared.taking;
@@ -330,8 +326,8 @@ module _ (k : Inside) (is : EngineStands k) (processor : ℕ) (server : Server) 
             ∙ d.same (gone_by n) (turns_with k servers) (history (run_in k) dates) variable turned
 
         -- the engine with what it has then
-        module _ (high : server.cycles + n ≤ (date + 1) * k.plan.unit.quantum) (machine : AgentMachine) (charge : Charged) (waiting : Option ℕ) (figure : Figure) (seat : Seat) (ended : List ℤ)
-            (one : OneStands (run_in k) k.plan.code (given_turns n) k.plan.until date agent (r ∷ before) charge machine waiting figure seat ended)
+        module _ (high : server.cycles + n ≤ (date + 1) * k.plan.unit.quantum) (runner : Runner) (waiting : Option ℕ) (seat : Seat) (ended : List ℤ)
+            (one : OneStands (run_in k) k.plan.code (given_turns n) k.plan.until date agent (r ∷ before) runner waiting seat ended)
             (as_many : length ended ≡ length k.shared.ended.items) (others : (variable : ℕ) (v : VarDecl) → slice_get k.plan.unit.variables variable ≡ Some v → v.owner ≢ Some agent → slice_get ended variable ≡ slice_get k.shared.ended.items variable)
             (outbox : Outboxed) (taken : List ℕ) (box : BoxStands (run_in k) k.plan.code (given_turns n) date agent (r ∷ before) outbox.sends taken)
             (size : (old : Outboxed) → slice_get k.shared.outboxes.items agent ≡ Some old → outbox.size ≡ old.size) (count : length taken ≡ length k.shared.taken.items)
@@ -348,23 +344,57 @@ module _ (k : Inside) (is : EngineStands k) (processor : ℕ) (server : Server) 
 
           parts_given : (after : Shared) → after.date ≡ k.shared.date → after.seats.items ≡ slice_set k.shared.seats.items agent seat → after.ended.items ≡ ended → after.committed ≡ k.shared.committed
               → after.rings ≡ k.shared.rings → after.queues ≡ k.shared.queues → after.outboxes.items ≡ slice_set k.shared.outboxes.items agent outbox → after.taken.items ≡ taken → after.calendar ≡ k.shared.calendar → IsTold seat k.shared.movers after.movers
-              → PartsStand (run_in k) k.plan.sizes k.plan.code k.plan.until (turns_with k servers) dates after (slice_set k.machines.items agent machine) (slice_set k.charges.items agent charge) (waits_on k.plan.unit servers) (slice_set k.figures.items agent figure)
+              → PartsStand (run_in k) k.plan.sizes k.plan.code k.plan.until (turns_with k servers) dates after (slice_set k.runners.items agent runner) (waits_on k.plan.unit servers)
           parts_given after a b c e f g h i j told =
-              alike (run_in k) k.plan.sizes k.plan.code k.plan.until (gone_by n) dates after (slice_set k.machines.items agent machine) (slice_set k.charges.items agent charge) (waits_on k.plan.unit servers) (slice_set k.figures.items agent figure)
-              (given (run_in k) k.plan.sizes k.plan.code k.plan.until (turns_in k) dates k.shared k.machines.items k.charges.items (waits_on k.plan.unit k.servers.items) k.figures.items (parts_in k is) lawful date agent r before (last_date dates date inside.0) t.is_last n machine charge waiting figure seat ended one as_many others outbox taken box size count untaken (waits_on k.plan.unit servers) own_waiting other_waiting after h i
-              (shared_given (run_in k) k.plan.sizes k.plan.code k.plan.until (turns_in k) dates k.shared k.machines.items k.charges.items (waits_on k.plan.unit k.servers.items) k.figures.items (parts_in k is) lawful date agent r before (last_date dates date inside.0) t.is_last n machine charge waiting figure seat ended one as_many others outbox taken box size count untaken after a b c e f g h i j told))
+              alike (run_in k) k.plan.sizes k.plan.code k.plan.until (gone_by n) dates after (slice_set k.runners.items agent runner) (waits_on k.plan.unit servers)
+              (given (run_in k) k.plan.sizes k.plan.code k.plan.until (turns_in k) dates k.shared k.runners.items (waits_on k.plan.unit k.servers.items) (parts_in k is) lawful date agent r before (last_date dates date inside.0) t.is_last n runner waiting seat ended one as_many others outbox taken box size count untaken (waits_on k.plan.unit servers) own_waiting other_waiting after h i
+              (shared_given (run_in k) k.plan.sizes k.plan.code k.plan.until (turns_in k) dates k.shared k.runners.items (waits_on k.plan.unit k.servers.items) (parts_in k is) lawful date agent r before (last_date dates date inside.0) t.is_last n runner waiting seat ended one as_many others outbox taken box size count untaken after a b c e f g h i j told))
               (turns_with k servers) turned
 
-          pub given_stands : (moved : Vec Server Global) (movers : Movers) (told : IsTold seat k.shared.movers movers) (seats : Vec Seat Global) (copies : Vec ℤ Global) (outboxes : Vec Outboxed Global) (counts : Vec ℕ Global) (machines : Vec AgentMachine Global) (charges : Vec Charged Global) (figures : Vec Figure Global) (reaches : Vec (Option ℕ) Global) (now : ℕ)
-              → moved.items ≡ servers → seats.items ≡ slice_set k.shared.seats.items agent seat → copies.items ≡ ended → outboxes.items ≡ slice_set k.shared.outboxes.items agent outbox → counts.items ≡ taken → machines.items ≡ slice_set k.machines.items agent machine → charges.items ≡ slice_set k.charges.items agent charge → figures.items ≡ slice_set k.figures.items agent figure
+          pub given_stands : (moved : Vec Server Global) (movers : Movers) (told : IsTold seat k.shared.movers movers) (seats : Vec Seat Global) (copies : Vec ℤ Global) (outboxes : Vec Outboxed Global) (counts : Vec ℕ Global) (runners : Vec Runner Global) (reaches : Vec (Option ℕ) Global) (now : ℕ)
+              → moved.items ≡ servers → seats.items ≡ slice_set k.shared.seats.items agent seat → copies.items ≡ ended → outboxes.items ≡ slice_set k.shared.outboxes.items agent outbox → counts.items ≡ taken → runners.items ≡ slice_set k.runners.items agent runner
               → now ≡ dates - 1 → length reaches.items ≡ length k.reaches.items
               → ((variable : ℕ) → slice_get k.reaches.items variable ≡ Some (reach (run_in k) (turns_in k) (history (run_in k) (now + 1)) variable) → slice_get reaches.items variable ≡ Some (reach (run_in k) (gone_by n) (history (run_in k) (now + 1)) variable))
-              → EngineStands (record k { shared = record k.shared { seats = seats; ended = copies; outboxes = outboxes; taken = counts; movers = movers }; machines = machines; charges = charges; figures = figures; reaches = reaches; servers = moved })
-          given_stands moved movers told seats copies outboxes counts machines charges figures reaches now moved_is a b g h c e f now_is many_reached reached =
+              → EngineStands (record k { shared = record k.shared { seats = seats; ended = copies; outboxes = outboxes; taken = counts; movers = movers }; runners = runners; reaches = reaches; servers = moved })
+          given_stands moved movers told seats copies outboxes counts runners reaches now moved_is a b g h c now_is many_reached reached =
               let after : Shared = record k.shared { seats = seats; ended = copies; outboxes = outboxes; taken = counts; movers = movers } in
-              stands_gone k processor server next n servers gone is d high moved movers seats copies outboxes counts machines charges figures reaches moved_is
-              (subst (λ ms. PartsStand (run_in k) k.plan.sizes k.plan.code k.plan.until (turns_with k servers) dates after ms charges.items (waits_on k.plan.unit servers) figures.items) (sym c)
-              (subst (λ cs. PartsStand (run_in k) k.plan.sizes k.plan.code k.plan.until (turns_with k servers) dates after (slice_set k.machines.items agent machine) cs (waits_on k.plan.unit servers) figures.items) (sym e)
-              (subst (λ fs. PartsStand (run_in k) k.plan.sizes k.plan.code k.plan.until (turns_with k servers) dates after (slice_set k.machines.items agent machine) (slice_set k.charges.items agent charge) (waits_on k.plan.unit servers) fs) (sym f)
-              (parts_given after refl a b refl refl refl g h refl told))))
+              stands_gone k processor server next n servers gone is d high moved movers seats copies outboxes counts runners reaches moved_is
+              (subst (λ rs. PartsStand (run_in k) k.plan.sizes k.plan.code k.plan.until (turns_with k servers) dates after rs (waits_on k.plan.unit servers)) (sym c)
+              (parts_given after refl a b refl refl refl g h refl told))
               many_reached (reached_given now now_is reaches.items many_reached reached)
+
+      -- ---- all of them at once
+
+      module _ (most : ℕ) (high : server.cycles + most ≤ (date + 1) * k.plan.unit.quantum) (ahead : (o : Order) → slice_get k.script.orders server.passed ≡ Some o → server.cycles + most ≤ o.cycle)
+          (now : ℕ) (now_is : now ≡ dates - 1) (n : ℕ) (count : (1 ≤ n) × (n ≤ most)) {goes : Bool} {runner : Runner} {seat : Seat} {ended : List ℤ} (outbox : Outboxed) {taken : List ℕ} {reaches : List (Option ℕ)}
+          (lasts : Lasts k.plan (opening_in k) k.shared.inputs.lists (stalls_of k.script) (turns_in k) now agent r before deadline n goes runner seat ended outbox.sends taken k.reaches.items reaches) where
+        lasted_row : (j : ℕ) → j ≤ n → all_in (server.cycles + j) ≡ given_to (turn_of (Some r)) j all
+        lasted_row j less = row most high ahead j (omega (arith, less, count.1)) (λ i below. lasts.pends i (omega (arith, below, less)))
+
+        pub lasted_steady : (between : ℕ) → server.cycles < between → between < server.cycles + n → IsOverOn (state_of k) processor between → ⊥
+        lasted_steady = given_steady n count.0 lasted_row lasts.pends
+
+        pub lasted_over : goes ≡ false → IsOverOn (state_of k) processor (server.cycles + n)
+        lasted_over over = over_by n count.0 lasted_row lasts.pends goes lasts.is_on over
+
+        abbrev after_all : Option ℕ
+        after_all = if goes then deadline else None
+
+        one_then : OneStands (run_in k) k.plan.code (given_turns n) k.plan.until date agent (r ∷ before) runner after_all seat ended
+        one_then = subst (λ m. OneStands (run_in k) k.plan.code (given_turns n) k.plan.until m agent (r ∷ before) runner after_all seat ended) (on_date now now_is) lasts.has
+
+        box_then : BoxStands (run_in k) k.plan.code (given_turns n) date agent (r ∷ before) outbox.sends taken
+        box_then = subst (λ m. BoxStands (run_in k) k.plan.code (given_turns n) m agent (r ∷ before) outbox.sends taken) (on_date now now_is) lasts.boxed
+
+        -- the engine with what it has then
+        module _ (next : Server) (servers : List Server) (gone : HaveGone k processor server next n servers) (own : pending_deadline next.ready agent ≡ after_all) (rest : (other : ℕ) → (other ≡ agent → ⊥) → pending_deadline next.ready other ≡ pending_deadline server.ready other)
+            (as_many : length ended ≡ length k.shared.ended.items) (others : (variable : ℕ) (v : VarDecl) → slice_get k.plan.unit.variables variable ≡ Some v → v.owner ≢ Some agent → slice_get ended variable ≡ slice_get k.shared.ended.items variable)
+            (size : (old : Outboxed) → slice_get k.shared.outboxes.items agent ≡ Some old → outbox.size ≡ old.size) (counted : length taken ≡ length k.shared.taken.items)
+            (untaken : (stream : ℕ) (decl : StreamDecl) → slice_get k.plan.unit.streams stream ≡ Some decl → decl.receiver ≢ agent → slice_get taken stream ≡ slice_get k.shared.taken.items stream) (many : length reaches ≡ length k.reaches.items)
+            (movers : Movers) (told : IsTold seat k.shared.movers movers) where
+          pub lasted_stands : (moved : Vec Server Global) (seats : Vec Seat Global) (copies : Vec ℤ Global) (outboxes : Vec Outboxed Global) (counts : Vec ℕ Global) (runners : Vec Runner Global) (reached : Vec (Option ℕ) Global)
+              → moved.items ≡ servers → seats.items ≡ slice_set k.shared.seats.items agent seat → copies.items ≡ ended → outboxes.items ≡ slice_set k.shared.outboxes.items agent outbox → counts.items ≡ taken → runners.items ≡ slice_set k.runners.items agent runner → reached.items ≡ reaches
+              → EngineStands (record k { shared = record k.shared { seats = seats; ended = copies; outboxes = outboxes; taken = counts; movers = movers }; runners = runners; reaches = reached; servers = moved })
+          lasted_stands moved seats copies outboxes counts runners reached moved_is a b c d e f =
+              given_stands n (lasted_row n (omega arith)) next servers gone (omega (arith, high, count.1)) runner after_all seat ended one_then as_many others outbox taken box_then size counted untaken own rest
+              moved movers told seats copies outboxes counts runners reached now moved_is a b c d e now_is (ap length f ∙ many) (λ variable at. ap (λ xs. slice_get xs variable) f ∙ lasts.reached variable at)

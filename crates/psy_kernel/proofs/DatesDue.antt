@@ -4,9 +4,7 @@ use Rattle.std.specs.List.{All, Contains, slice_get}
 use Rattle.std.proofs.Math.Numerals.{add-one}
 use Rattle.std.proofs.lemmas.List.{length-map}
 use Rattle.std.proofs.lemmas.List.Elements.{All-contains}
-use Rattle.psy_budget.specs.Charges.{Charged}
 use Rattle.psy_code.specs.declared.code.Code.{Code}
-use Rattle.psy_machine.specs.Stepping.{AgentMachine}
 use Rattle.psy_tree.specs.declared.unit.Unit.{Unit as Whole}
 use Rattle.psy_history.specs.Actions.{Action, History, System, first_action}
 use Rattle.psy_history.specs.History.{history}
@@ -25,13 +23,13 @@ use Rattle.psy_dates.specs.Plans.{IsSoundFor}
 use Rattle.psy_dates.proofs.lemmas.Begun.{AreBegun, are_begun}
 use Rattle.psy_dates.proofs.lemmas.Fits.{GoOn, GoWell, goes_well_from}
 use Rattle.psy_kernel.specs.Engines.{EngineState, next_date}
-use Rattle.psy_kernel.specs.declared.engine.Figure.{Figure}
+use Rattle.psy_kernel.specs.declared.engine.Runner.{Runner}
 use Rattle.psy_kernel.specs.declared.engine.Engine.TheInside.{Inside}
 use Rattle.psy_kernel.specs.declared.engine.Server.{Server}
 use Rattle.psy_history.specs.Scripts.{stalls_of}
 use Rattle.psy_kernel.specs.Standing.{AgentStands, DeedsStand, EngineStands, given_at, most_held_in, state_of, told_from, waits_on}
 use Rattle.psy_dates.specs.Movers.{IsDoneBelow}
-use Rattle.psy_kernel.specs.Starting.{charge_at, deadline_at, held_at, seat_at, starts_at}
+use Rattle.psy_kernel.specs.Starting.{deadline_at, held_at, runner_at, seat_at, starts_at}
 use Rattle.psy_kernel.proofs.Dated.{agents_after, free_before}
 use Rattle.psy_kernel.proofs.DeedsDated.{HaveBegun, HaveStayed, deeds_after}
 use Rattle.psy_kernel.proofs.Engines.{cycles_of, opening_in, order_in, run_in, turns_in}
@@ -174,18 +172,18 @@ module _ (k : Inside) (date : ℕ) (at : IsDue k date) where
         let here : Sits (run_in k) (date + 1 - 1) (full agent) agent (history (run_in k) (suc date) agent) seat = subst (λ d. Sits (run_in k) (date + 1 - 1) (full agent) agent (history (run_in k) d agent) seat) (add-one date) (done.seats agent seat there) in
         subst (λ d. Sits (run_in k) d (full agent) agent (history (run_in k) (suc date) agent) seat) (omega arith) here
 
-    was : (agent : ℕ) (machine : AgentMachine) (charge : Charged) (figure : Figure) → slice_get k.machines.items agent ≡ Some machine → slice_get k.charges.items agent ≡ Some charge → slice_get k.figures.items agent ≡ Some figure → AgentStands (run_in k) k.plan.code (full agent) k.plan.until agent (history (run_in k) date agent) charge machine (waits_on k.plan.unit k.servers.items agent) figure
-    was agent machine charge figure em ec ef =
-        subst (λ ts. AgentStands (run_in k) k.plan.code ts k.plan.until agent (history (run_in k) date agent) charge machine (waits_on k.plan.unit k.servers.items agent) figure) (turns_full agent)
-        (subst (λ d. AgentStands (run_in k) k.plan.code (turns_in k agent) k.plan.until agent (history (run_in k) d agent) charge machine (waits_on k.plan.unit k.servers.items agent) figure) (sym at.is_date) (h.agents agent machine charge figure em ec ef))
+    was : (agent : ℕ) (runner : Runner) → slice_get k.runners.items agent ≡ Some runner → AgentStands (run_in k) k.plan.code (full agent) k.plan.until agent (history (run_in k) date agent) runner (waits_on k.plan.unit k.servers.items agent)
+    was agent runner there =
+        subst (λ ts. AgentStands (run_in k) k.plan.code ts k.plan.until agent (history (run_in k) date agent) runner (waits_on k.plan.unit k.servers.items agent)) (turns_full agent)
+        (subst (λ d. AgentStands (run_in k) k.plan.code (turns_in k agent) k.plan.until agent (history (run_in k) d agent) runner (waits_on k.plan.unit k.servers.items agent)) (sym at.is_date) (h.agents agent runner there))
 
     pub free : (agent : ℕ) → starts_at date (seat_at shared.seats.items agent) ≡ true → waits_on k.plan.unit k.servers.items agent ≡ None
-    free = free_before k.plan.unit k.plan.code k.plan.nexts (opening_in k) (stalls_of k.script) k.shared.inputs.lists date k.plan.until full lawful at.opens at.small unstarted in_time k.machines.items k.charges.items (waits_on k.plan.unit k.servers.items) k.figures.items h.charges was shared.seats.items done.seated sits h.machined h.figured
+    free = free_before k.plan.unit k.plan.code k.plan.nexts (opening_in k) (stalls_of k.script) k.shared.inputs.lists date k.plan.until full lawful at.opens at.small unstarted in_time k.runners.items (waits_on k.plan.unit k.servers.items) h.run was shared.seats.items done.seated sits
 
-    pub agents : (charges : List Charged) (waits : ℕ → Option ℕ) → IsDoneBelow (charge_at date shared.seats.items k.plan.unit.agents) (length k.plan.unit.agents) k.charges.items charges
+    pub agents : (runners : List Runner) (waits : ℕ → Option ℕ) → IsDoneBelow (runner_at date shared.seats.items k.plan.unit.agents) (length k.plan.unit.agents) k.runners.items runners
         → ((agent : ℕ) → agent < length k.plan.unit.agents → waits agent ≡ deadline_at date shared.seats.items agent (waits_on k.plan.unit k.servers.items agent))
-        → (agent : ℕ) (machine : AgentMachine) (charge : Charged) (figure : Figure) → slice_get k.machines.items agent ≡ Some machine → slice_get charges agent ≡ Some charge → slice_get k.figures.items agent ≡ Some figure → AgentStands (run_in k) k.plan.code (full agent) k.plan.until agent (history (run_in k) (suc date) agent) charge machine (waits agent) figure
-    agents = agents_after k.plan.unit k.plan.code k.plan.nexts (opening_in k) (stalls_of k.script) k.shared.inputs.lists date k.plan.until full lawful at.opens at.small unstarted in_time k.machines.items k.charges.items (waits_on k.plan.unit k.servers.items) k.figures.items h.charges was shared.seats.items done.seated sits
+        → (agent : ℕ) (runner : Runner) → slice_get runners agent ≡ Some runner → AgentStands (run_in k) k.plan.code (full agent) k.plan.until agent (history (run_in k) (suc date) agent) runner (waits agent)
+    agents = agents_after k.plan.unit k.plan.code k.plan.nexts (opening_in k) (stalls_of k.script) k.shared.inputs.lists date k.plan.until full lawful at.opens at.small unstarted in_time k.runners.items (waits_on k.plan.unit k.servers.items) h.run was shared.seats.items done.seated sits
 
     pub helds : (after : List ℕ) → IsDoneBelow (held_at shared.queues.items) (length shared.queues.items) k.helds.items after → (stream n : ℕ) → slice_get after stream ≡ Some n → n ≡ most_held_in (run_in k) (date + 1) stream
     helds after_each done_each = held_more (run_in k) k.plan.sizes full date later shared done k.helds.items after_each h.holding (λ stream n there. subst (λ d. n ≡ most_held_in (run_in k) d stream) (sym at.is_date) (h.held stream n there)) done_each

@@ -6,7 +6,6 @@ use Rattle.std.proofs.lemmas.Bool.{cases_eq, ltb-false}
 use Rattle.std.proofs.lemmas.Nat.{mul-le}
 use Rattle.std.proofs.lemmas.List.{length-set}
 use Rattle.std.proofs.lemmas.Option.{same_Some, slice_get_within}
-use Rattle.psy_budget.specs.Charges.{Charged}
 use Rattle.psy_dates.proofs.lemmas.Sets.{get_set_other, get_set_there}
 use Rattle.psy_dates.specs.declared.movers.Movers.{Movers}
 use Rattle.psy_dates.specs.declared.plan.Plan.{Plan}
@@ -26,7 +25,6 @@ use Rattle.psy_history.specs.Summary.{reach}
 use Rattle.psy_history.specs.declared.told.Order.{Order}
 use Rattle.psy_history.specs.declared.told.Script.{Script}
 use Rattle.psy_history.specs.Scripts.{order_of, stalls_of}
-use Rattle.psy_machine.specs.Stepping.{AgentMachine}
 use Rattle.psy_ready.specs.Choice.{ListsEach, pending_deadline}
 use Rattle.psy_tree.specs.declared.unit.Unit.{Unit as Whole}
 use Rattle.psy_kernel.specs.Cycles.{AreOver, GetsCycle, IsCycleOf, LooksBack, order_by, run_of, run_turns}
@@ -34,7 +32,7 @@ use Rattle.psy_kernel.specs.Engines.{EngineState, done_on, next_date, opening_of
 use Rattle.psy_kernel.specs.Standing.{AreInForce, EngineStands, InTick, IsChosen, ServerStands, ready_of, state_of, waits_on}
 use Rattle.psy_kernel.specs.Stretches.{given_on, given_to}
 use Rattle.psy_kernel.specs.declared.engine.Engine.TheInside.{Inside}
-use Rattle.psy_kernel.specs.declared.engine.Figure.{Figure}
+use Rattle.psy_kernel.specs.declared.engine.Runner.{Runner}
 use Rattle.psy_kernel.specs.declared.engine.Server.{Server}
 use Rattle.psy_kernel.proofs.GivenCycles.{others_given, own_given}
 use Rattle.psy_kernel.proofs.OrdersInForce.{in_force_is, lists_order, no_more}
@@ -80,14 +78,12 @@ abbrev pub turns_in : Inside → ℕ → List (Option Turn)
 turns_in k agent = turns_with k k.servers.items agent
 
 abbrev pub PartsIn : Inside → Type 0
-PartsIn k = PartsStand (run_in k) k.plan.sizes k.plan.code k.plan.until (turns_in k) (dates_done k.shared.date) k.shared k.machines.items k.charges.items (waits_on k.plan.unit k.servers.items) k.figures.items
+PartsIn k = PartsStand (run_in k) k.plan.sizes k.plan.code k.plan.until (turns_in k) (dates_done k.shared.date) k.shared k.runners.items (waits_on k.plan.unit k.servers.items)
 
 pub parts_in : (k : Inside) → EngineStands k → PartsIn k
 parts_in k is = record {
   shares = is.shared;
-  machined = is.machined;
-  charged = is.charges;
-  figured = is.figured;
+  run = is.run;
   agents = is.agents;
   doing = is.doing;
 }
@@ -291,16 +287,16 @@ module _ (k : Inside) (processor : ℕ) (server next : Server) (n : ℕ) (server
 
   -- The engine with what it has then
   pub stands_gone : (is : EngineStands k) (d : IsDue k processor server) → server.cycles + n ≤ (d.date + 1) * k.plan.unit.quantum
-      → (moved : Vec Server Global) (movers : Movers) (seats : Vec Seat Global) (copies : Vec ℤ Global) (outboxes : Vec Outboxed Global) (counts : Vec ℕ Global) (machines : Vec AgentMachine Global) (charges : Vec Charged Global) (figures : Vec Figure Global) (reaches : Vec (Option ℕ) Global)
+      → (moved : Vec Server Global) (movers : Movers) (seats : Vec Seat Global) (copies : Vec ℤ Global) (outboxes : Vec Outboxed Global) (counts : Vec ℕ Global) (runners : Vec Runner Global) (reaches : Vec (Option ℕ) Global)
       → moved.items ≡ servers
-      → PartsStand (run_in k) k.plan.sizes k.plan.code k.plan.until (turns_with k servers) (dates_done k.shared.date) (record k.shared { seats = seats; ended = copies; outboxes = outboxes; taken = counts; movers = movers }) machines.items charges.items (waits_on k.plan.unit servers) figures.items
+      → PartsStand (run_in k) k.plan.sizes k.plan.code k.plan.until (turns_with k servers) (dates_done k.shared.date) (record k.shared { seats = seats; ended = copies; outboxes = outboxes; taken = counts; movers = movers }) runners.items (waits_on k.plan.unit servers)
       → length reaches.items ≡ length k.reaches.items
       → ((variable : ℕ) (m : Option ℕ) → slice_get reaches.items variable ≡ Some m → m ≡ reach (run_in k) (turns_with k servers) (history (run_in k) (dates_done k.shared.date)) variable)
-      → EngineStands (record k { shared = record k.shared { seats = seats; ended = copies; outboxes = outboxes; taken = counts; movers = movers }; machines = machines; charges = charges; figures = figures; reaches = reaches; servers = moved })
-  stands_gone is d high moved movers seats copies outboxes counts machines charges figures reaches moved_is parts as_many reached =
+      → EngineStands (record k { shared = record k.shared { seats = seats; ended = copies; outboxes = outboxes; taken = counts; movers = movers }; runners = runners; reaches = reaches; servers = moved })
+  stands_gone is d high moved movers seats copies outboxes counts runners reaches moved_is parts as_many reached =
       let after : Shared = record k.shared { seats = seats; ended = copies; outboxes = outboxes; taken = counts; movers = movers } in
-      let all : PartsStand (run_in k) k.plan.sizes k.plan.code k.plan.until (turns_with k moved.items) (dates_done k.shared.date) after machines.items charges.items (waits_on k.plan.unit moved.items) figures.items =
-      subst (λ ss. PartsStand (run_in k) k.plan.sizes k.plan.code k.plan.until (turns_with k ss) (dates_done k.shared.date) after machines.items charges.items (waits_on k.plan.unit ss) figures.items) (sym moved_is) parts in
+      let all : PartsStand (run_in k) k.plan.sizes k.plan.code k.plan.until (turns_with k moved.items) (dates_done k.shared.date) after runners.items (waits_on k.plan.unit moved.items) =
+      subst (λ ss. PartsStand (run_in k) k.plan.sizes k.plan.code k.plan.until (turns_with k ss) (dates_done k.shared.date) after runners.items (waits_on k.plan.unit ss)) (sym moved_is) parts in
       record {
         plan = is.plan;
         inputs = is.inputs;
@@ -310,14 +306,12 @@ module _ (k : Inside) (processor : ℕ) (server next : Server) (n : ℕ) (server
         served = ap length moved_is ∙ gone.count ∙ is.served;
         servers = λ other x there. server_gone is d high (map (λ (server : Server). server.cycles) moved.items) other x (ap (λ ss. slice_get ss other) (sym moved_is) ∙ there);
         shared = all.shares;
-        machined = all.machined;
-        charges = all.charged;
+        run = all.run;
         reaching = as_many ∙ is.reaching;
         reached = subst (λ ss. (variable : ℕ) (m : Option ℕ) → slice_get reaches.items variable ≡ Some m → m ≡ reach (run_in k) (turns_with k ss) (history (run_in k) (dates_done k.shared.date)) variable) (sym moved_is) reached;
         holding = is.holding;
         held = is.held;
         doing = all.doing;
-        figured = all.figured;
         agents = all.agents;
         all = is.all;
         place = is.place;

@@ -1,11 +1,11 @@
--- The lines of the summary by the figures, the reaches and what was held, place by place.
+-- The lines of the summary by what the agents have, the reaches and what was held, place by place.
 use Rattle.std.proofs.Common.{◌≡◌, ℕ, suc, ◌+◌, ◌-◌, ◌<◌, List, ◌∷◌, ◌++◌, map, length, get_or, slice_get, Option, Some, refl, ap, ◌∙◌, arith, length-append}
 use Rattle.std.specs.List.{range_with_len}
 use Rattle.std.proofs.lemmas.List.{get_or_append_left, get_or-append_right}
 use Rattle.std.proofs.lemmas.List.FromFn.{length-map-range_with_len, get_or-map-range_with_len}
 use Rattle.std.proofs.lemmas.Option.{slice_get-get_or}
 use Rattle.psy_dates.specs.declared.plan.Plan.{Plan}
-use Rattle.psy_kernel.specs.declared.engine.Figure.{Figure}
+use Rattle.psy_kernel.specs.declared.engine.Runner.{Runner}
 use Rattle.psy_kernel.specs.Telling.{figure_line, figured_lines, held_line, reach_line}
 
 -- ---- three lists made from numbers, one behind the other
@@ -49,7 +49,7 @@ next_place x xs place i e = ap (slice_get (x ∷ xs)) e
 
 -- ---- the lines
 
-module _ (plan : Plan) (figures : List Figure) (reaches : List (Option ℕ)) (helds : List ℕ) where
+module _ (plan : Plan) (runners : List Runner) (reaches : List (Option ℕ)) (helds : List ℕ) where
   abbrev agents : ℕ
   agents = length plan.unit.agents
 
@@ -60,18 +60,18 @@ module _ (plan : Plan) (figures : List Figure) (reaches : List (Option ℕ)) (he
   streams = length plan.unit.streams
 
   abbrev behind_first : List (List ℕ)
-  behind_first = map (figure_line plan.unit figures) (range_with_len 0 agents) ++ (map (reach_line plan reaches) (range_with_len 0 variables) ++ map (held_line plan helds) (range_with_len 0 streams))
+  behind_first = map (figure_line plan.unit runners) (range_with_len 0 agents) ++ (map (reach_line plan reaches) (range_with_len 0 variables) ++ map (held_line plan helds) (range_with_len 0 streams))
 
-  pub agent_figured : (place agent : ℕ) → place ≡ suc agent → agent < agents → slice_get (figured_lines plan figures reaches helds) place ≡ Some (figure_line plan.unit figures agent)
-  agent_figured place agent e l = next_place _ behind_first place agent e ∙ in_first (figure_line plan.unit figures) (reach_line plan reaches) (held_line plan helds) agents variables streams agent l
+  pub agent_figured : (place agent : ℕ) → place ≡ suc agent → agent < agents → slice_get (figured_lines plan runners reaches helds) place ≡ Some (figure_line plan.unit runners agent)
+  agent_figured place agent e l = next_place _ behind_first place agent e ∙ in_first (figure_line plan.unit runners) (reach_line plan reaches) (held_line plan helds) agents variables streams agent l
 
-  pub variable_figured : (place variable : ℕ) → place ≡ suc (agents + variable) → variable < variables → slice_get (figured_lines plan figures reaches helds) place ≡ Some (reach_line plan reaches variable)
+  pub variable_figured : (place variable : ℕ) → place ≡ suc (agents + variable) → variable < variables → slice_get (figured_lines plan runners reaches helds) place ≡ Some (reach_line plan reaches variable)
   variable_figured place variable e l =
-      next_place _ behind_first place (agents + variable) e ∙ in_second (figure_line plan.unit figures) (reach_line plan reaches) (held_line plan helds) agents variables streams (agents + variable) variable refl l
+      next_place _ behind_first place (agents + variable) e ∙ in_second (figure_line plan.unit runners) (reach_line plan reaches) (held_line plan helds) agents variables streams (agents + variable) variable refl l
 
-  pub stream_figured : (place stream : ℕ) → place ≡ suc (agents + (variables + stream)) → stream < streams → slice_get (figured_lines plan figures reaches helds) place ≡ Some (held_line plan helds stream)
+  pub stream_figured : (place stream : ℕ) → place ≡ suc (agents + (variables + stream)) → stream < streams → slice_get (figured_lines plan runners reaches helds) place ≡ Some (held_line plan helds stream)
   stream_figured place stream e l =
-      next_place _ behind_first place (agents + (variables + stream)) e ∙ in_third (figure_line plan.unit figures) (reach_line plan reaches) (held_line plan helds) agents variables streams (agents + (variables + stream)) stream refl l
+      next_place _ behind_first place (agents + (variables + stream)) e ∙ in_third (figure_line plan.unit runners) (reach_line plan reaches) (held_line plan helds) agents variables streams (agents + (variables + stream)) stream refl l
 
-  pub figured_length : length (figured_lines plan figures reaches helds) ≡ suc (agents + variables + streams)
-  figured_length = ap suc (all_length (figure_line plan.unit figures) (reach_line plan reaches) (held_line plan helds) agents variables streams)
+  pub figured_length : length (figured_lines plan runners reaches helds) ≡ suc (agents + variables + streams)
+  figured_length = ap suc (all_length (figure_line plan.unit runners) (reach_line plan reaches) (held_line plan helds) agents variables streams)

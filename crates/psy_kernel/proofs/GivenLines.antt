@@ -47,14 +47,12 @@ stands_at k place shown given w within unshown is before = record {
   served = w.served;
   servers = λ processor server at. (let its = w.servers processor server at in record { in_tick = its.in_tick; waiting = its.waiting; own = its.own; orders = its.orders; choice = its.choice });
   shared = w.shared;
-  machined = w.machined;
-  charges = w.charges;
+  run = w.run;
   reaching = w.reaching;
   reached = w.reached;
   holding = w.holding;
   held = w.held;
   doing = w.doing;
-  figured = w.figured;
   agents = w.agents;
   all = w.all;
   place = within;

@@ -7,7 +7,6 @@ use Rattle.std.proofs.lemmas.List.{get_or_past}
 use Rattle.std.proofs.lemmas.List.Elements.{All-weaker}
 use Rattle.std.proofs.lemmas.Option.{slice_get-get_or}
 use Rattle.psy_arith.specs.declared.operators.Trap.{Trap}
-use Rattle.psy_budget.specs.Charges.{Charged}
 use Rattle.psy_code.specs.declared.code.Code.{Code}
 use Rattle.psy_code.specs.Execution.{Machine, copy_of}
 use Rattle.psy_dates.specs.declared.seat.Seat.{Seat}
@@ -25,6 +24,7 @@ use Rattle.psy_base.specs.Extremes.{lesser}
 use Rattle.psy_kernel.specs.Acting.{AfterCycle, InAction}
 use Rattle.psy_kernel.specs.Cycles.{GetsCycle, OneStands, figured}
 use Rattle.psy_kernel.specs.declared.engine.Figure.{Figure}
+use Rattle.psy_kernel.specs.declared.engine.Runner.{Runner}
 use Rattle.psy_kernel.specs.declared.engine.advance.Gone.TheVariants as gone
 use Rattle.psy_kernel.specs.Standing.{IsAtEnd, IsRunning, MachineIn, charge_after, settled}
 use Rattle.psy_kernel.proofs.Figures.{added_is, added_more, least_more}
@@ -210,86 +210,78 @@ module _ (s : System) (code : Code) (turns : List (Option Turn)) (until date cyc
       let copy = are variable (variable_of s variable) value (variable_known s variable agent owned) owned at in
       ap value_or_zero (sym copy ∙ ap (λ (m : Machine). copy_of variable m.copies) e)
 
-  pub in_action : (charge : Charged) (machine : AgentMachine) (waits : Option ℕ) (figure : Figure) (seat : Seat) (ended : List ℤ) → OneStands s code turns until date agent (r ∷ before) charge machine waits figure seat ended → InAction s code r had charge machine
-  in_action charge machine waits figure seat ended old = record {
+  pub in_action : (runner : Runner) (waits : Option ℕ) (seat : Seat) (ended : List ℤ) → OneStands s code turns until date agent (r ∷ before) runner waits seat ended → InAction s code r had runner.charge runner.machine
+  in_action runner waits seat ended old = record {
     of_code = g.of_code;
     agent = old.stands.is_agent ∙ sym g.agent_is;
     pending = early;
     charged = old.stands.charged;
-    running = subst (λ test. MachineIn s code turns r test machine) g.pending old.stands.executes;
+    running = subst (λ test. MachineIn s code turns r test runner.machine) g.pending old.stands.executes;
   }
 
-  pub moved : (charge : Charged) (machine : AgentMachine) (waits : Option ℕ) (figure other : Figure) (seat seat' : Seat) (ended ended' : List ℤ) → figure ≡ other → seat ≡ seat' → ended ≡ ended'
-      → OneStands s code now until date agent (r ∷ before) charge machine waits figure seat ended → OneStands s code now until date agent (r ∷ before) charge machine waits other seat' ended'
-  moved charge machine waits figure other seat seat' ended ended' a b c h =
-      subst (λ f. OneStands s code now until date agent (r ∷ before) charge machine waits f seat' ended') a
-      (subst (λ x. OneStands s code now until date agent (r ∷ before) charge machine waits figure x ended') b
-      (subst (λ x. OneStands s code now until date agent (r ∷ before) charge machine waits figure seat x) c h))
-
-  module _ (charge : Charged) (machine : AgentMachine) (waits : Option ℕ) (figure : Figure) (seat : Seat) (ended : List ℤ) (old : OneStands s code turns until date agent (r ∷ before) charge machine waits figure seat ended) (charge' : Charged) (machine' : AgentMachine) (is_of : IsOf code machine') where
-    abbrev figure' : Figure
-    figure' = figured until s.unit.quantum r.deadline (cycle + 1) figure
-
-    pub goes_on : AfterCycle s code r had gone.Going charge' machine' → OneStands s code now until date agent (r ∷ before) charge' machine' waits figure seat ended
-    goes_on a =
+  module _ (runner : Runner) (waits : Option ℕ) (seat : Seat) (ended : List ℤ) (old : OneStands s code turns until date agent (r ∷ before) runner waits seat ended) (runner' : Runner) (is_of : IsOf code runner'.machine) where
+    pub goes_on : runner'.figure ≡ runner.figure → AfterCycle s code r had gone.Going runner'.charge runner'.machine → OneStands s code now until date agent (r ∷ before) runner' waits seat ended
+    goes_on same a =
         let on = still a.gone.0 in
         record {
           stands = record {
             charged = a.charged ∙ ap (charge_after s r) (sym more);
             is_agent = a.agent ∙ g.agent_is;
             of_code = is_of;
-            executes = subst (λ test. MachineIn s code now r test machine') (sym on) (subst (λ n. IsRunning code r (charge_after s r n).paid machine') (sym more) a.gone.1);
+            executes = subst (λ test. MachineIn s code now r test runner'.machine) (sym on) (subst (λ n. IsRunning code r (charge_after s r n).paid runner'.machine) (sym more) a.gone.1);
             ready = old.stands.ready ∙ ap (λ test. if test then Some r.deadline else None) (g.pending ∙ sym on);
-            counted = count_kept figure old.stands.counted old.stands.slacked on;
-            slacked = slack_kept figure old.stands.counted old.stands.slacked on;
+            counted = ap (λ (f : Figure). f.count) same ∙ count_kept runner.figure old.stands.counted old.stands.slacked on;
+            slacked = ap (λ (f : Figure). f.slack) same ∙ slack_kept runner.figure old.stands.counted old.stands.slacked on;
           };
           seated = seat_acting seat old.seated on;
           kept = λ variable value at owned e. absurd (let wrong : phase.Acting ≡ phase.Ended = sym (phase_acting on) ∙ e in cc);
         }
 
-    is_over : (seat' : Seat) (ended' : List ℤ) → suc had ≡ work r → charge' ≡ charge_after s r (suc had) → machine'.agent ≡ r.agent → IsAtEnd code r r.verdict machine' → SeatOf date now r seat'
-        → ((variable : ℕ) (value : ℤ) → slice_get ended' variable ≡ Some value → (variable_of s variable).owner ≡ Some agent → KeepsCopy date now variable (r ∷ before) value)
-        → OneStands s code now until date agent (r ∷ before) charge' machine' None figure' seat' ended'
-    is_over seat' ended' last charged of at_end sits kept =
-        let off = over last in
-        let f = figures figure old.stands.counted old.stands.slacked off in
-        record {
-          stands = record {
-            charged = charged ∙ ap (charge_after s r) (sym more);
-            is_agent = of ∙ g.agent_is;
-            of_code = is_of;
-            executes = subst (λ test. MachineIn s code now r test machine') (sym off) at_end;
-            ready = ap (λ test. if test then Some r.deadline else None) (sym off);
-            counted = f.0;
-            slacked = f.1;
-          };
-          seated = sits;
-          kept = kept;
-        }
+    -- with the figure that it has where it is over
+    module _ (figure_is : runner'.figure ≡ figured until s.unit.quantum r.deadline (cycle + 1) runner.figure) where
+      is_over : (seat' : Seat) (ended' : List ℤ) → suc had ≡ work r → runner'.charge ≡ charge_after s r (suc had) → runner'.machine.agent ≡ r.agent → IsAtEnd code r r.verdict runner'.machine → SeatOf date now r seat'
+          → ((variable : ℕ) (value : ℤ) → slice_get ended' variable ≡ Some value → (variable_of s variable).owner ≡ Some agent → KeepsCopy date now variable (r ∷ before) value)
+          → OneStands s code now until date agent (r ∷ before) runner' None seat' ended'
+      is_over seat' ended' last charged of at_end sits kept =
+          let off = over last in
+          let f = subst (AreFigures runner.figure old.stands.counted old.stands.slacked) (sym figure_is) (figures runner.figure old.stands.counted old.stands.slacked off) in
+          record {
+            stands = record {
+              charged = charged ∙ ap (charge_after s r) (sym more);
+              is_agent = of ∙ g.agent_is;
+              of_code = is_of;
+              executes = subst (λ test. MachineIn s code now r test runner'.machine) (sym off) at_end;
+              ready = ap (λ test. if test then Some r.deadline else None) (sym off);
+              counted = f.0;
+              slacked = f.1;
+            };
+            seated = sits;
+            kept = kept;
+          }
 
-    pub reaches : (point end : ℕ) (ended' : List ℤ) → end ≡ end_date (timing s agent) r.start point → AfterCycle s code r had (gone.Ended point) charge' machine' → AreOfMachine ended' machine'
-        → OneStands s code now until date agent (r ∷ before) charge' machine' None figure' (record seat { phase = phase.Ended; end = end; reached = point }) ended'
-    reaches point end ended' is a are =
-        let same : a.gone.1 ≡ end = (g.ends point a.gone.1 a.gone.2).0 ∙ sym is in
-        is_over (record seat { phase = phase.Ended; end = end; reached = point }) ended' a.gone.0 a.charged a.agent (subst (λ verdict. IsAtEnd code r verdict machine') (sym a.gone.2) a.gone.3)
-        (seat_ended seat old.seated point end (over a.gone.0) (a.gone.2 ∙ ap (Done point) same))
-        (λ variable value at owned e. kept_copies point ended' machine' a.gone.3 are variable value at owned)
+      pub reaches : (point end : ℕ) (ended' : List ℤ) → end ≡ end_date (timing s agent) r.start point → AfterCycle s code r had (gone.Ended point) runner'.charge runner'.machine → AreOfMachine ended' runner'.machine
+          → OneStands s code now until date agent (r ∷ before) runner' None (record seat { phase = phase.Ended; end = end; reached = point }) ended'
+      reaches point end ended' is a are =
+          let same : a.gone.1 ≡ end = (g.ends point a.gone.1 a.gone.2).0 ∙ sym is in
+          is_over (record seat { phase = phase.Ended; end = end; reached = point }) ended' a.gone.0 a.charged a.agent (subst (λ verdict. IsAtEnd code r verdict runner'.machine) (sym a.gone.2) a.gone.3)
+          (seat_ended seat old.seated point end (over a.gone.0) (a.gone.2 ∙ ap (Done point) same))
+          (λ variable value at owned e. kept_copies point ended' runner'.machine a.gone.3 are variable value at owned)
 
-    not_ended : is_pending now r ≡ false → is_done r.verdict ≡ false → (variable : ℕ) (value : ℤ) → KeepsCopy date now variable (r ∷ before) value
-    not_ended off done variable value e = absurd (let wrong : phase.Stopped ≡ phase.Ended = sym (phase_over off ∙ ap (λ test. phase_by false false test) done) ∙ e in cc)
+      not_ended : is_pending now r ≡ false → is_done r.verdict ≡ false → (variable : ℕ) (value : ℤ) → KeepsCopy date now variable (r ∷ before) value
+      not_ended off done variable value e = absurd (let wrong : phase.Stopped ≡ phase.Ended = sym (phase_over off ∙ ap (λ test. phase_by false false test) done) ∙ e in cc)
 
-    pub traps : (kind : Trap) → AfterCycle s code r had (gone.Trapped kind) charge' machine' → OneStands s code now until date agent (r ∷ before) charge' machine' None figure' (record seat { phase = phase.Stopped; trap = Some kind }) ended
-    traps kind a =
-        let off = over a.gone.0 in
-        let done = ap is_done a.gone.1 in
-        is_over (record seat { phase = phase.Stopped; trap = Some kind }) ended a.gone.0 a.charged a.agent (subst (λ verdict. IsAtEnd code r verdict machine') (sym a.gone.1) (tt {0}))
-        (subst (λ trap. SeatOf date now r (record seat { phase = phase.Stopped; trap = trap })) (ap trap_of a.gone.1) (seat_stopped seat old.seated off done))
-        (λ variable value at owned. not_ended off done variable value)
+      pub traps : (kind : Trap) → AfterCycle s code r had (gone.Trapped kind) runner'.charge runner'.machine → OneStands s code now until date agent (r ∷ before) runner' None (record seat { phase = phase.Stopped; trap = Some kind }) ended
+      traps kind a =
+          let off = over a.gone.0 in
+          let done = ap is_done a.gone.1 in
+          is_over (record seat { phase = phase.Stopped; trap = Some kind }) ended a.gone.0 a.charged a.agent (subst (λ verdict. IsAtEnd code r verdict runner'.machine) (sym a.gone.1) (tt {0}))
+          (subst (λ trap. SeatOf date now r (record seat { phase = phase.Stopped; trap = trap })) (ap trap_of a.gone.1) (seat_stopped seat old.seated off done))
+          (λ variable value at owned. not_ended off done variable value)
 
-    pub overruns : AfterCycle s code r had gone.Spent charge' machine' → OneStands s code now until date agent (r ∷ before) charge' machine' None figure' (record seat { phase = phase.Stopped; trap = None }) ended
-    overruns a =
-        let off = over a.gone.0 in
-        let done = ap is_done a.gone.1 in
-        is_over (record seat { phase = phase.Stopped; trap = None }) ended a.gone.0 a.charged a.agent (subst (λ verdict. IsAtEnd code r verdict machine') (sym a.gone.1) (tt {0}))
-        (subst (λ trap. SeatOf date now r (record seat { phase = phase.Stopped; trap = trap })) (ap trap_of a.gone.1) (seat_stopped seat old.seated off done))
-        (λ variable value at owned. not_ended off done variable value)
+      pub overruns : AfterCycle s code r had gone.Spent runner'.charge runner'.machine → OneStands s code now until date agent (r ∷ before) runner' None (record seat { phase = phase.Stopped; trap = None }) ended
+      overruns a =
+          let off = over a.gone.0 in
+          let done = ap is_done a.gone.1 in
+          is_over (record seat { phase = phase.Stopped; trap = None }) ended a.gone.0 a.charged a.agent (subst (λ verdict. IsAtEnd code r verdict runner'.machine) (sym a.gone.1) (tt {0}))
+          (subst (λ trap. SeatOf date now r (record seat { phase = phase.Stopped; trap = trap })) (ap trap_of a.gone.1) (seat_stopped seat old.seated off done))
+          (λ variable value at owned. not_ended off done variable value)

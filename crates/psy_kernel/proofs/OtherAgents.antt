@@ -17,7 +17,7 @@ use Rattle.psy_history.specs.Executors.{agent_code_at}
 use Rattle.psy_history.specs.Schedule.{Turn, finish, is_of, is_pending, units, work}
 use Rattle.psy_history.specs.Summary.{due_by, due_count, least_slack, numbers_in, slack_of}
 use Rattle.psy_base.specs.Extremes.{least_of}
-use Rattle.psy_kernel.specs.declared.engine.Figure.{Figure}
+use Rattle.psy_kernel.specs.declared.engine.Runner.{Runner}
 use Rattle.psy_kernel.specs.Standing.{AgentStands, ChargeStands, DeedsStand, HasDone, MachineIn, MachineStands, charge_after, deadline_of, settled}
 
 -- ---- lists
@@ -103,13 +103,13 @@ module _ (turns now : List (Option Turn)) where
   deadline_kept [] same = refl
   deadline_kept (r ∷ before) same = ap (λ test. if test then Some r.deadline else None) (pending_same r (All-head (AreSameFor turns now) r before same))
 
-  pub agent_kept : (s : System) (code : Code) (until agent : ℕ) (actions : List Action) (charge : Charged) (machine : AgentMachine) (waits : Option ℕ) (figure : Figure) → All (AreSameFor turns now) actions
-      → AgentStands s code turns until agent actions charge machine waits figure → AgentStands s code now until agent actions charge machine waits figure
-  agent_kept s code until agent actions charge machine waits figure same h = record {
-    charged = charge_kept s agent actions charge same h.charged;
+  pub agent_kept : (s : System) (code : Code) (until agent : ℕ) (actions : List Action) (runner : Runner) (waits : Option ℕ) → All (AreSameFor turns now) actions
+      → AgentStands s code turns until agent actions runner waits → AgentStands s code now until agent actions runner waits
+  agent_kept s code until agent actions runner waits same h = record {
+    charged = charge_kept s agent actions runner.charge same h.charged;
     is_agent = h.is_agent;
     of_code = h.of_code;
-    executes = machine_kept s code agent actions machine same h.executes;
+    executes = machine_kept s code agent actions runner.machine same h.executes;
     ready = h.ready ∙ sym (deadline_kept actions same);
     counted = h.counted ∙ ap (due_count s agent) (sym (settled_same until actions same));
     slacked = h.slacked ∙ sym (least_settled_same s until agent actions same);

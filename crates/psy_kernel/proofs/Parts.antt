@@ -6,7 +6,6 @@ use Rattle.std.proofs.lemmas.Bool.{cases_eq, cases_lt}
 use Rattle.std.proofs.lemmas.List.{get_or_past, length-set}
 use Rattle.std.proofs.lemmas.List.Elements.{All-head, All-weaker}
 use Rattle.std.proofs.lemmas.Option.{slice_get-get_or, slice_get_within}
-use Rattle.psy_budget.specs.Charges.{Charged}
 use Rattle.psy_code.specs.declared.code.Code.{Code}
 use Rattle.psy_dates.specs.declared.seat.Seat.{Seat}
 use Rattle.psy_dates.specs.declared.movers.Movers.{Movers}
@@ -16,7 +15,6 @@ use Rattle.psy_dates.specs.Outboxes.{Outboxed}
 use Rattle.psy_dates.specs.Standing.{IsSeated, KeepsCopy, KeepsSends, KeepsTakes, MoversStand, OutboxStands, SeatStands, SharedStands, dates_done}
 use Rattle.psy_dates.proofs.lemmas.Moving.{never_waits, silent_by, silent_from}
 use Rattle.psy_history.specs.Regular.{AreRegular, IsLawful, IsRegular}
-use Rattle.psy_machine.specs.Stepping.{AgentMachine}
 use Rattle.psy_history.specs.Actions.{Action, History, System, is_done, is_silent, stream_of, variable_of}
 use Rattle.psy_tree.specs.Parts.{no_stream}
 use Rattle.psy_base.specs.declared.sizes.Sizes.{Sizes}
@@ -27,7 +25,7 @@ use Rattle.psy_ready.specs.Choice.{IsPick, pending_deadline}
 use Rattle.psy_tree.specs.declared.unit.StreamDecl.{StreamDecl}
 use Rattle.psy_tree.specs.declared.unit.VarDecl.{VarDecl}
 use Rattle.psy_kernel.specs.Cycles.{AreOver, BoxStands, OneStands}
-use Rattle.psy_kernel.specs.declared.engine.Figure.{Figure}
+use Rattle.psy_kernel.specs.declared.engine.Runner.{Runner}
 use Rattle.psy_kernel.specs.Standing.{AgentStands, DeedsStand, IsChosen, deadline_of}
 use Rattle.psy_kernel.specs.Stretches.{given_on, given_to}
 use Rattle.psy_kernel.proofs.GivenCycles.{missed_on, own_given}
@@ -39,14 +37,11 @@ use Rattle.psy_kernel.proofs.PickIsSoonest.{Front, front_of, soonest_by_pick, so
 use Rattle.psy_dates.proofs.lemmas.Sets.{get_set_other, get_set_same}
 
 -- It stands for the history of so many dates, where by agent the cycles of its processor went to these turns
-pub record PartsStand (s : System) (sizes : Sizes) (code : Code) (until : ℕ) (turns : ℕ → List (Option Turn)) (dates : ℕ) (shared : Shared) (machines : List AgentMachine) (charges : List Charged) (waiting : ℕ → Option ℕ) (figures : List Figure) : Type 0 where
+pub record PartsStand (s : System) (sizes : Sizes) (code : Code) (until : ℕ) (turns : ℕ → List (Option Turn)) (dates : ℕ) (shared : Shared) (runners : List Runner) (waiting : ℕ → Option ℕ) : Type 0 where
   pub shares : SharedStands s sizes turns dates shared
-  pub machined : length machines ≡ length s.unit.agents
-  pub charged : length charges ≡ length s.unit.agents
-  pub figured : length figures ≡ length s.unit.agents
-  pub agents : (agent : ℕ) (machine : AgentMachine) (charge : Charged) (figure : Figure)
-      → slice_get machines agent ≡ Some machine → slice_get charges agent ≡ Some charge → slice_get figures agent ≡ Some figure
-      → AgentStands s code (turns agent) until agent (history s dates agent) charge machine (waiting agent) figure
+  pub run : length runners ≡ length s.unit.agents
+  pub agents : (agent : ℕ) (runner : Runner) → slice_get runners agent ≡ Some runner
+      → AgentStands s code (turns agent) until agent (history s dates agent) runner (waiting agent)
   pub doing : (agent : ℕ) (outbox : Outboxed) → slice_get shared.outboxes.items agent ≡ Some outbox → DeedsStand s code (turns agent) (history s dates agent) outbox.sends shared.taken.items
 
 found : {X : Type 0} (xs : List X) (place : ℕ) → place < length xs → (x : X) × (slice_get xs place ≡ Some x)
@@ -93,35 +88,32 @@ shared_same s sizes turns now dates shared same h = record {
 pub shared_alike : (s : System) (sizes : Sizes) (turns now : ℕ → List (Option Turn)) (dates : ℕ) (shared : Shared) → ((agent : ℕ) → turns agent ≡ now agent) → SharedStands s sizes turns dates shared → SharedStands s sizes now dates shared
 shared_alike s sizes turns now dates shared same = shared_same s sizes turns now dates shared (λ agent k d less. subst (λ ts. AreSameFor (turns agent) ts (get_or (history s dates agent) k d)) (same agent) (record { units = refl; finish = refl }))
 
-module _ (s : System) (sizes : Sizes) (code : Code) (until : ℕ) (turns : ℕ → List (Option Turn)) (dates : ℕ) (shared : Shared) (machines : List AgentMachine) (charges : List Charged) (waiting : ℕ → Option ℕ) (figures : List Figure) (p : PartsStand s sizes code until turns dates shared machines charges waiting figures) where
+module _ (s : System) (sizes : Sizes) (code : Code) (until : ℕ) (turns : ℕ → List (Option Turn)) (dates : ℕ) (shared : Shared) (runners : List Runner) (waiting : ℕ → Option ℕ) (p : PartsStand s sizes code until turns dates shared runners waiting) where
   -- turns that give each action as many cycles, and the last one as late
-  parts_same : (now : ℕ → List (Option Turn)) → ((agent : ℕ) → All (AreSameFor (turns agent) (now agent)) (history s dates agent)) → PartsStand s sizes code until now dates shared machines charges waiting figures
+  parts_same : (now : ℕ → List (Option Turn)) → ((agent : ℕ) → All (AreSameFor (turns agent) (now agent)) (history s dates agent)) → PartsStand s sizes code until now dates shared runners waiting
   parts_same now same = record {
     shares = shared_same s sizes turns now dates shared same p.shares;
-    machined = p.machined;
-    charged = p.charged;
-    figured = p.figured;
-    agents = λ agent machine charge figure m c f. agent_kept (turns agent) (now agent) s code until agent (history s dates agent) charge machine (waiting agent) figure (same agent) (p.agents agent machine charge figure m c f);
+    run = p.run;
+    agents = λ agent runner at.
+        agent_kept (turns agent) (now agent) s code until agent (history s dates agent) runner (waiting agent) (same agent) (p.agents agent runner at);
     doing = λ agent outbox at. deeds_kept (turns agent) (now agent) s code (history s dates agent) outbox.sends shared.taken.items (same agent) (p.doing agent outbox at);
   }
 
   -- the same turns, by agent
-  pub alike : (now : ℕ → List (Option Turn)) → ((agent : ℕ) → turns agent ≡ now agent) → PartsStand s sizes code until now dates shared machines charges waiting figures
+  pub alike : (now : ℕ → List (Option Turn)) → ((agent : ℕ) → turns agent ≡ now agent) → PartsStand s sizes code until now dates shared runners waiting
   alike now same = parts_same now (λ agent k d less. subst (λ ts. AreSameFor (turns agent) ts (get_or (history s dates agent) k d)) (same agent) (record { units = refl; finish = refl }))
 
   -- the same deadlines, by agent
-  pub waits_alike : (others : ℕ → Option ℕ) → ((agent : ℕ) → waiting agent ≡ others agent) → PartsStand s sizes code until turns dates shared machines charges others figures
+  pub waits_alike : (others : ℕ → Option ℕ) → ((agent : ℕ) → waiting agent ≡ others agent) → PartsStand s sizes code until turns dates shared runners others
   waits_alike others same = record {
     shares = p.shares;
-    machined = p.machined;
-    charged = p.charged;
-    figured = p.figured;
-    agents = λ agent machine charge figure m c f. subst (λ w. AgentStands s code (turns agent) until agent (history s dates agent) charge machine w figure) (same agent) (p.agents agent machine charge figure m c f);
+    run = p.run;
+    agents = λ agent runner at. subst (AgentStands s code (turns agent) until agent (history s dates agent) runner) (same agent) (p.agents agent runner at);
     doing = p.doing;
   }
 
   -- cycles that nobody gets
-  pub idle : (processor n : ℕ) → PartsStand s sizes code until (given_on s.unit processor None n turns) dates shared machines charges waiting figures
+  pub idle : (processor n : ℕ) → PartsStand s sizes code until (given_on s.unit processor None n turns) dates shared runners waiting
   idle processor n = parts_same (given_on s.unit processor None n turns) (λ agent k d less. missed_on s.unit processor agent None turns (get_or (history s dates agent) k d) refl n)
 
   module _ (lawful : IsLawful s) where
@@ -142,8 +134,8 @@ module _ (s : System) (sizes : Sizes) (code : Code) (until : ℕ) (turns : ℕ �
       waits_is : (agent : ℕ) → processor_at s.unit agent ≡ processor → pending_deadline ready agent ≡ deadline_of (turns agent) (history s dates agent)
       waits_is agent of = elim (cases_lt agent (length s.unit.agents)) [
         | inl less ↦
-            (let m = found machines agent (omega (arith, less, p.machined)) in let c = found charges agent (omega (arith, less, p.charged)) in let f = found figures agent (omega (arith, less, p.figured)) in
-            sym (own agent of) ∙ AgentStands.ready (p.agents agent m.0 c.0 f.0 m.1 c.1 f.1))
+            (let runner = found runners agent (omega (arith, less, p.run)) in
+            sym (own agent of) ∙ AgentStands.ready (p.agents agent runner.0 runner.1))
         | inr more ↦ get_or_past ready agent None (omega (arith, more, as_many)) ∙ sym (ap (deadline_of (turns agent)) (past agent more))
       ]
 
@@ -186,10 +178,10 @@ module _ (s : System) (sizes : Sizes) (code : Code) (until : ℕ) (turns : ℕ �
 
   -- what an agent has, with its seat and kept copies
   pub one_of : (date agent : ℕ) (r : Action) (before : List Action) → dates - 1 ≡ date → history s dates agent ≡ r ∷ before
-      → (machine : AgentMachine) (charge : Charged) (figure : Figure) (seat : Seat) → slice_get machines agent ≡ Some machine → slice_get charges agent ≡ Some charge → slice_get figures agent ≡ Some figure → slice_get shared.seats.items agent ≡ Some seat
-      → OneStands s code (turns agent) until date agent (r ∷ before) charge machine (waiting agent) figure seat shared.ended.items
-  one_of date agent r before last is machine charge figure seat m c f x = record {
-    stands = subst (λ actions. AgentStands s code (turns agent) until agent actions charge machine (waiting agent) figure) is (p.agents agent machine charge figure m c f);
+      → (runner : Runner) (seat : Seat) → slice_get runners agent ≡ Some runner → slice_get shared.seats.items agent ≡ Some seat
+      → OneStands s code (turns agent) until date agent (r ∷ before) runner (waiting agent) seat shared.ended.items
+  one_of date agent r before last is runner seat at x = record {
+    stands = subst (λ actions. AgentStands s code (turns agent) until agent actions runner (waiting agent)) is (p.agents agent runner at);
     seated = seated_last (s.opening.silent agent) s.opening.dates date (turns agent) r before seat
         (subst (λ actions. IsSeated (s.opening.silent agent) s.opening.dates date (turns agent) actions seat) is
         (subst (λ d. IsSeated (s.opening.silent agent) s.opening.dates d (turns agent) (history s dates agent) seat) last (p.shares.seats agent seat x)));
@@ -220,12 +212,12 @@ module _ (s : System) (sizes : Sizes) (code : Code) (until : ℕ) (turns : ℕ �
         (λ q e. missed_on s.unit (processor_at s.unit r.agent) other (Some (record { agent = r.agent; number = r.number })) turns q (other_agent q.agent q.number (record { agent = r.agent; number = r.number }) (λ same. differs (sym e ∙ sym same ∙ r_agent))) n)
         (history s dates other) (of_agent other (history s dates other) (AreRegular.each (lawful.actions dates other)))
 
-    module _ (machine : AgentMachine) (charge : Charged) (waits : Option ℕ) (figure : Figure) (seat : Seat) (ended : List ℤ) (one_is : OneStands s code mine until date agent (r ∷ before) charge machine waits figure seat ended)
+    module _ (runner : Runner) (waits : Option ℕ) (seat : Seat) (ended : List ℤ) (one_is : OneStands s code mine until date agent (r ∷ before) runner waits seat ended)
         (all : length ended ≡ length shared.ended.items) (others : (variable : ℕ) (v : VarDecl) → slice_get s.unit.variables variable ≡ Some v → v.owner ≢ Some agent → slice_get ended variable ≡ slice_get shared.ended.items variable)
         (outbox : Outboxed) (taken : List ℕ) (box_is : BoxStands s code mine date agent (r ∷ before) outbox.sends taken) (size : (old : Outboxed) → slice_get shared.outboxes.items agent ≡ Some old → outbox.size ≡ old.size)
         (count : length taken ≡ length shared.taken.items) (untaken : (stream : ℕ) (decl : StreamDecl) → slice_get s.unit.streams stream ≡ Some decl → decl.receiver ≢ agent → slice_get taken stream ≡ slice_get shared.taken.items stream) where
-      one : OneStands s code (now agent) until date agent (r ∷ before) charge machine waits figure seat ended
-      one = subst (λ ts. OneStands s code ts until date agent (r ∷ before) charge machine waits figure seat ended) (sym own_now) one_is
+      one : OneStands s code (now agent) until date agent (r ∷ before) runner waits seat ended
+      one = subst (λ ts. OneStands s code ts until date agent (r ∷ before) runner waits seat ended) (sym own_now) one_is
 
       box : BoxStands s code (now agent) date agent (r ∷ before) outbox.sends taken
       box = subst (λ ts. BoxStands s code ts date agent (r ∷ before) outbox.sends taken) (sym own_now) box_is
@@ -326,29 +318,25 @@ module _ (s : System) (sizes : Sizes) (code : Code) (until : ℕ) (turns : ℕ �
 
       -- the agent's own, and those of another agent
       agents_given : (waiting' : ℕ → Option ℕ) → waiting' agent ≡ waits → ((other : ℕ) → (other ≡ agent → ⊥) → waiting' other ≡ waiting other)
-          → (other : ℕ) (m : AgentMachine) (c : Charged) (f : Figure) → slice_get (slice_set machines agent machine) other ≡ Some m → slice_get (slice_set charges agent charge) other ≡ Some c → slice_get (slice_set figures agent figure) other ≡ Some f
-          → AgentStands s code (now other) until other (history s dates other) c m (waiting' other) f
-      agents_given waiting' own rest other m c f at_m at_c at_f = elim (cases_eq other agent) [
+          → (other : ℕ) (x : Runner) → slice_get (slice_set runners agent runner) other ≡ Some x → AgentStands s code (now other) until other (history s dates other) x (waiting' other)
+      agents_given waiting' own rest other x at = elim (cases_eq other agent) [
         | inl same ↦
-            (let m_is : m ≡ machine = get_set_same machines agent machine m (sym (ap (slice_get (slice_set machines agent machine)) same) ∙ at_m) in
-            let c_is : c ≡ charge = get_set_same charges agent charge c (sym (ap (slice_get (slice_set charges agent charge)) same) ∙ at_c) in
-            let f_is : f ≡ figure = get_set_same figures agent figure f (sym (ap (slice_get (slice_set figures agent figure)) same) ∙ at_f) in
-            subst (λ a. AgentStands s code (now a) until a (history s dates a) c m (waiting' a) f) (sym same) (subst (λ actions. AgentStands s code (now agent) until agent actions c m (waiting' agent) f) (sym is)
-            (subst (λ z. AgentStands s code (now agent) until agent (r ∷ before) z m (waiting' agent) f) (sym c_is) (subst (λ z. AgentStands s code (now agent) until agent (r ∷ before) charge z (waiting' agent) f) (sym m_is)
-            (subst (λ z. AgentStands s code (now agent) until agent (r ∷ before) charge machine z f) (sym own) (subst (λ z. AgentStands s code (now agent) until agent (r ∷ before) charge machine waits z) (sym f_is) one.stands))))))
+            (let x_is : x ≡ runner = get_set_same runners agent runner x (sym (ap (slice_get (slice_set runners agent runner)) same) ∙ at) in
+            subst (λ a. AgentStands s code (now a) until a (history s dates a) x (waiting' a)) (sym same)
+            (subst (λ actions. AgentStands s code (now agent) until agent actions x (waiting' agent)) (sym is)
+            (subst (λ z. AgentStands s code (now agent) until agent (r ∷ before) z (waiting' agent)) (sym x_is)
+            (subst (AgentStands s code (now agent) until agent (r ∷ before) runner) (sym own) one.stands))))
         | inr differs ↦
-            subst (λ z. AgentStands s code (now other) until other (history s dates other) c m z f) (sym (rest other differs))
-            (agent_kept (turns other) (now other) s code until other (history s dates other) c m (waiting other) f (others_same other differs)
-            (p.agents other m c f (sym (get_set_other machines agent other machine differs) ∙ at_m) (sym (get_set_other charges agent other charge differs) ∙ at_c) (sym (get_set_other figures agent other figure differs) ∙ at_f)))
+            subst (AgentStands s code (now other) until other (history s dates other) x) (sym (rest other differs))
+            (agent_kept (turns other) (now other) s code until other (history s dates other) x (waiting other) (others_same other differs)
+            (p.agents other x (sym (get_set_other runners agent other runner differs) ∙ at)))
       ]
 
       pub given : (waiting' : ℕ → Option ℕ) → waiting' agent ≡ waits → ((other : ℕ) → (other ≡ agent → ⊥) → waiting' other ≡ waiting other)
-          → (after : Shared) → after.outboxes.items ≡ slice_set shared.outboxes.items agent outbox → after.taken.items ≡ taken → SharedStands s sizes now dates after → PartsStand s sizes code until now dates after (slice_set machines agent machine) (slice_set charges agent charge) waiting' (slice_set figures agent figure)
+          → (after : Shared) → after.outboxes.items ≡ slice_set shared.outboxes.items agent outbox → after.taken.items ≡ taken → SharedStands s sizes now dates after → PartsStand s sizes code until now dates after (slice_set runners agent runner) waiting'
       given waiting' own rest after outboxes_are taken_is shares = record {
         shares = shares;
-        machined = length-set machines agent machine ∙ p.machined;
-        charged = length-set charges agent charge ∙ p.charged;
-        figured = length-set figures agent figure ∙ p.figured;
+        run = length-set runners agent runner ∙ p.run;
         agents = agents_given waiting' own rest;
         doing = λ other x at. subst (λ ns. DeedsStand s code (now other) (history s dates other) x.sends ns) (sym taken_is) (doing_given other x (sym (ap (λ xs. slice_get xs other) outboxes_are) ∙ at));
       }

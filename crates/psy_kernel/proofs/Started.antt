@@ -26,7 +26,7 @@ use Rattle.psy_dates.specs.declared.seat.Phase.TheVariants as phase
 use Rattle.psy_dates.specs.declared.seat.Seat.{Seat}
 use Rattle.psy_dates.specs.Standing.{IsSeated, SeatOf, phase_by}
 use Rattle.psy_dates.proofs.lemmas.Begun.{AreBegun, seat_of_last}
-use Rattle.psy_kernel.specs.declared.engine.Figure.{Figure}
+use Rattle.psy_kernel.specs.declared.engine.Runner.{Runner}
 use Rattle.psy_kernel.specs.Standing.{AgentStands, ChargeStands, IsAtEnd, IsRunning, MachineIn, MachineStands, charge_after, deadline_of, settled}
 use Rattle.psy_kernel.specs.Starting.{budget_in, is_acting, starts_at}
 
@@ -196,32 +196,32 @@ module _ (unit : Whole) (code : Code) (nexts : List (List (List ℕ))) (opening 
 
     -- ---- the next action starts
 
-    begun : (n : Next) (charge : Charged) (machine : AgentMachine) (waits : Option ℕ) (figure : Figure) (budget : ℕ) → next_of of_code agent actions ≡ Some n → n.start ≡ date
+    begun : (n : Next) (runner : Runner) (waits : Option ℕ) (budget : ℕ) → next_of of_code agent actions ≡ Some n → n.start ≡ date
         → history of_code (suc date) agent ≡ action_of of_code (history of_code date) agent n ∷ actions
         → budget ≡ (action_of of_code (history of_code date) agent n).budget
-        → AgentStands of_code code turns until agent actions charge machine waits figure
-        → AgentStands of_code code turns until agent (action_of of_code (history of_code date) agent n ∷ actions) (after_start charge budget) machine (Some (action_of of_code (history of_code date) agent n).deadline) figure
-    begun n charge machine waits figure budget next at grew its_budget h =
+        → AgentStands of_code code turns until agent actions runner waits
+        → AgentStands of_code code turns until agent (action_of of_code (history of_code date) agent n ∷ actions) (record runner { charge = after_start runner.charge budget }) (Some (action_of of_code (history of_code date) agent n).deadline)
+    begun n runner waits budget next at grew its_budget h =
         let r = action_of of_code (history of_code date) agent n in
         let regular = All-head (IsRegular of_code agent) r actions (subst (All (IsRegular of_code agent)) grew (lawful.actions (suc date) agent).each) in
         let started = (subst (WereStarted of_code (suc date) agent) grew (lawful.actions (suc date) agent).were_started).0 in
         let none : units agent r.number turns ≡ 0 = unstarted r.number (omega (arith, started.number)) in
         let number : r.number ≡ first_number of_code agent + length actions = omega (arith, started.number) in
         let pending : is_pending turns r ≡ true = pends turns r none regular.granted regular.charged in
-        let counts = charge_counts actions charge n refl next h.charged in
+        let counts = charge_counts actions runner.charge n refl next h.charged in
         let low : first_number of_code agent ≤ 1000000 = opens.numbers agent in
         let few : length actions ≤ date = (lawful.actions date agent).few in
-        let total : min (charge.started + 1) (2 ^ 64 - 1) ≡ r.number + 1 = omega (arith, counts.1, number, few, small, low) in
-        let fresh : after_start charge budget ≡ charge_after of_code r 0 = cc (counts.0, total, its_budget) in
+        let total : min (runner.charge.started + 1) (2 ^ 64 - 1) ≡ r.number + 1 = omega (arith, counts.1, number, few, small, low) in
+        let fresh : after_start runner.charge budget ≡ charge_after of_code r 0 = cc (counts.0, total, its_budget) in
         let its = agent_code_at code agent in
-        let running : IsRunning code r (charge_after of_code r (units agent r.number turns)).paid machine =
-        (begun_by its r, ap (λ had. run_code code its (begun_by its r) (charge_after of_code r had).paid) none, sym (stands_at actions machine n refl h.executes next at)) in
+        let running : IsRunning code r (charge_after of_code r (units agent r.number turns)).paid runner.machine =
+        (begun_by its r, ap (λ had. run_code code its (begun_by its r) (charge_after of_code r had).paid) none, sym (stands_at actions runner.machine n refl h.executes next at)) in
         let same = settled_before turns until r actions pending in
         record {
           charged = fresh ∙ ap (charge_after of_code r) (sym none);
           is_agent = h.is_agent;
           of_code = h.of_code;
-          executes = subst (λ b. MachineIn of_code code turns r b machine) (sym pending) running;
+          executes = subst (λ b. MachineIn of_code code turns r b runner.machine) (sym pending) running;
           ready = rw pending refl;
           counted = h.counted ∙ ap (due_count of_code agent) (sym same);
           slacked = h.slacked ∙ ap (least_slack of_code turns agent) (sym same);
@@ -257,21 +257,22 @@ module _ (unit : Whole) (code : Code) (nexts : List (List (List ℕ))) (opening 
     abbrev points : List Point
     points = (agent_at unit agent).points
 
-    abbrev Behind : Seat → Charged → AgentMachine → Option ℕ → Figure → List Action → Bool → Type 0
-    Behind seat charge machine waits figure rs b = AgentStands of_code code turns until agent rs (if b then after_start charge (budget_in points seat.point) else charge) machine (if b then Some seat.deadline else waits) figure
+    abbrev Behind : Seat → Runner → Option ℕ → List Action → Bool → Type 0
+    Behind seat runner waits rs b =
+        AgentStands of_code code turns until agent rs (record runner { charge = if b then after_start runner.charge (budget_in points seat.point) else runner.charge }) (if b then Some seat.deadline else waits)
 
-    pub agent_after : (seat : Seat) (charge : Charged) (machine : AgentMachine) (waits : Option ℕ) (figure : Figure) → Sits of_code date turns agent (history of_code (suc date) agent) seat → AgentStands of_code code turns until agent actions charge machine waits figure
-        → AgentStands of_code code turns until agent (history of_code (suc date) agent) (if starts_at date seat then after_start charge (budget_in (agent_at unit agent).points seat.point) else charge) machine (if starts_at date seat then Some seat.deadline else waits) figure
-    agent_after seat charge machine waits figure h stands = elim grows [
-      | inl same ↦ subst (Behind seat charge machine waits figure (history of_code (suc date) agent)) (sym (stays seat h same)) (subst (λ rs. AgentStands of_code code turns until agent rs charge machine waits figure) (sym same) stands)
+    pub agent_after : (seat : Seat) (runner : Runner) (waits : Option ℕ) → Sits of_code date turns agent (history of_code (suc date) agent) seat → AgentStands of_code code turns until agent actions runner waits
+        → Behind seat runner waits (history of_code (suc date) agent) (starts_at date seat)
+    agent_after seat runner waits h stands = elim grows [
+      | inl same ↦ subst (Behind seat runner waits (history of_code (suc date) agent)) (sym (stays seat h same)) (subst (λ rs. AgentStands of_code code turns until agent rs runner waits) (sym same) stands)
       | inr grew ↦ (
           let n = grew.0 in
           let r = action_of of_code (history of_code date) agent n in
           let seat_of : SeatOf date turns r seat = last_sits of_code date agent turns r actions seat (subst (λ rs. Sits of_code date turns agent rs seat) grew.3 h) in
-          let new = begun n charge machine waits figure (budget_in points seat.point) grew.1 grew.2 grew.3 (ap (budget_in points) seat_of.point) stands in
-          let due : AgentStands of_code code turns until agent (r ∷ actions) (after_start charge (budget_in points seat.point)) machine (Some seat.deadline) figure =
-          subst (λ d. AgentStands of_code code turns until agent (r ∷ actions) (after_start charge (budget_in points seat.point)) machine (Some d) figure) (sym seat_of.deadline) new in
-          subst (Behind seat charge machine waits figure (history of_code (suc date) agent)) (sym (acts seat n h grew.2 grew.3)) (subst (λ rs. AgentStands of_code code turns until agent rs (after_start charge (budget_in points seat.point)) machine (Some seat.deadline) figure) (sym grew.3) due))
+          let next : Runner = record runner { charge = after_start runner.charge (budget_in points seat.point) } in
+          let new = begun n runner waits (budget_in points seat.point) grew.1 grew.2 grew.3 (ap (budget_in points) seat_of.point) stands in
+          let due : AgentStands of_code code turns until agent (r ∷ actions) next (Some seat.deadline) = subst (λ d. AgentStands of_code code turns until agent (r ∷ actions) next (Some d)) (sym seat_of.deadline) new in
+          subst (Behind seat runner waits (history of_code (suc date) agent)) (sym (acts seat n h grew.2 grew.3)) (subst (λ rs. AgentStands of_code code turns until agent rs next (Some seat.deadline)) (sym grew.3) due))
     ]
 
     -- no action that is due is pending

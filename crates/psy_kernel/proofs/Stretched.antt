@@ -20,7 +20,7 @@ use Rattle.psy_kernel.specs.Acting.{AfterCycle, HasDoneBy, IsLookIn, IsOfCode}
 use Rattle.psy_kernel.specs.Cycles.{ActsIn}
 use Rattle.psy_kernel.specs.Seeing.{is_mine}
 use Rattle.psy_kernel.specs.Standing.{charge_after}
-use Rattle.psy_kernel.specs.Stretches.{AfterCycles, AllPay, AreReaches, HasDoneIn, IsOnWay, MayGoOn, gone_by, gone_on}
+use Rattle.psy_kernel.specs.Stretches.{AfterCycles, AllPay, AreReaches, HasDoneIn, IsOnWay, MayGoOn, Passes, ReachOn, Steps, gone_by, gone_on}
 use Rattle.psy_kernel.proofs.Bursts.{AreKept, IsMeant}
 use Rattle.psy_kernel.proofs.OnTheWay.{after_many, done_many, granted, not_over, on_behind, pays_or_stalls, stalled_isnt, unspent}
 use Rattle.psy_kernel.proofs.PaidCycles.{spent_is}
@@ -117,6 +117,13 @@ module _ (plan : Plan) (start date most : ℕ) (first : AgentMachine) (before : 
     some_done zero charge charged spent = absurd (begins charge charged spent)
     some_done (suc n) charge charged spent = omega arith
 
+-- Behind so many cycles of an action these many are free of stalls, and fit.
+pub record IsFree (plan : Plan) (start date most : ℕ) (first : AgentMachine) (before : Eyes) (reaches : List (Option ℕ)) (charge0 : Charged) (n : ℕ) (machine : AgentMachine) (now : Eyes) (reaches' : List (Option ℕ)) (charge : Charged) (free : ℕ) : Type 0 where
+  pub kept : AreKept (Begins charge0) plan start date most first before reaches n machine now reaches'
+  pub charged : ChargesOf plan start date most first before charge0 n charge
+  pub fits : n + free ≤ most
+  pub all : AllGoTo charge tick.Paid free
+
 module _ (laws : AreLaws) {plan : Plan} {start date most : ℕ} {first : AgentMachine} {before : Eyes} {reaches : List (Option ℕ)} {charge0 : Charged} where
   module _ {n : ℕ} {machine : AgentMachine} {now : Eyes} {reaches' : List (Option ℕ)} (kept : AreKept (Begins charge0) plan start date most first before reaches n machine now reaches') (few : n < most) (charge : Charged) (charged : ChargesOf plan start date most first before charge0 n charge) where
     -- behind a stall
@@ -151,7 +158,7 @@ module _ (laws : AreLaws) {plan : Plan} {start date most : ℕ} {first : AgentMa
 
   -- ---- the instructions behind it
 
-  module _ {n : ℕ} {machine : AgentMachine} {now : Eyes} {reaches' : List (Option ℕ)} (kept : AreKept (Begins charge0) plan start date most first before reaches n machine now reaches') (charge : Charged) (charged : ChargesOf plan start date most first before charge0 n charge) (free : ℕ) (fits : n + free ≤ most) (all : AllGoTo charge tick.Paid free) where
+  module _ {n : ℕ} {machine : AgentMachine} {now : Eyes} {reaches' : List (Option ℕ)} {charge : Charged} {free : ℕ} (f : IsFree plan start date most first before reaches charge0 n machine now reaches' charge free) where
     -- what is given of them
     pub part : (opening : Opening) (inputs : List (List ℤ)) (stalls : ℕ → List Stall) (r : Action) (had : ℕ) → IsMeant (Begins charge0) plan start date most first before opening inputs stalls r had
         → MayGoOn (opened_of plan opening inputs stalls) plan.code r (had + n) (had + n + free) start date machine now.scene.now now.taken.now.items now.outbox.now
@@ -160,96 +167,90 @@ module _ (laws : AreLaws) {plan : Plan} {start date most : ℕ} {first : AgentMa
         let may : MayGoOn s plan.code r had (had + most) start date first before.scene.now before.taken.now.items before.outbox.now = m.0 in
         record {
           of_code = may.of_code;
-          on_way = kept.on_way opening inputs stalls r had m;
+          on_way = f.kept.on_way opening inputs stalls r had m;
           started = may.started;
-          counted = kept.taking ∙ may.counted;
+          counted = f.kept.taking ∙ may.counted;
           acts = λ u low high less taken after counted size did.
-              subst (λ sight. ActsIn s plan.code r u sight taken after) (sym kept.scene) (may.acts u (omega (arith, low)) (omega (arith, high, fits)) less taken after counted (size ∙ kept.size) did);
-          near = λ u low high less look is. may.near u (omega (arith, low)) (omega (arith, high, fits)) less look is;
+              subst (λ sight. ActsIn s plan.code r u sight taken after) (sym f.kept.scene) (may.acts u (omega (arith, low)) (omega (arith, high, f.fits)) less taken after counted (size ∙ f.kept.size) did);
+          near = λ u low high less look is. may.near u (omega (arith, low)) (omega (arith, high, f.fits)) less look is;
         }
 
     pub part_pays : (opening : Opening) (inputs : List (List ℤ)) (stalls : ℕ → List Stall) (r : Action) (had : ℕ) → IsMeant (Begins charge0) plan start date most first before opening inputs stalls r had → AllPay (opened_of plan opening inputs stalls) r (had + n) (had + n + free)
-    part_pays opening inputs stalls r had m = all_pay laws (opened_of plan opening inputs stalls) r (had + n) free charge (charged opening inputs stalls r had m) all
+    part_pays opening inputs stalls r had m = all_pay laws (opened_of plan opening inputs stalls) r (had + n) free charge (f.charged opening inputs stalls r had m) f.all
 
     -- behind them
     module _ (count : ℕ) (few : count ≤ free) (charge' : Charged) (charge_is : charge' ≡ ticked charge count) where
       pub charged_behind : ChargesOf plan start date most first before charge0 (n + count) charge'
       charged_behind opening inputs stalls r had m =
-          charge_is ∙ on_by laws (opened_of plan opening inputs stalls) r (had + n) count charge (charged opening inputs stalls r had m) ∙ ap (λ u. charge_after (opened_of plan opening inputs stalls) r u) (sum_of had n count)
+          charge_is ∙ on_by laws (opened_of plan opening inputs stalls) r (had + n) count charge (f.charged opening inputs stalls r had m) ∙ ap (λ u. charge_after (opened_of plan opening inputs stalls) r u) (sum_of had n count)
 
-      module _ (machine' : AgentMachine) (after : Eyes) (reaches'' : List (Option ℕ)) where
-        -- the rings are reached for
-        abbrev pub IsReached : Type 0
-        IsReached = (opening : Opening) (inputs : List (List ℤ)) (stalls : ℕ → List Stall) (r : Action) (had : ℕ)
+      module _ (machine' : AgentMachine) (after : Eyes) (reaches'' : List (Option ℕ)) (answer : Step) where
+        -- what these steps leave
+        abbrev pub Leaves : Type 0
+        Leaves = (opening : Opening) (inputs : List (List ℤ)) (stalls : ℕ → List Stall) (r : Action) (had : ℕ)
             → MayGoOn (opened_of plan opening inputs stalls) plan.code r had (had + free) start date machine now.scene.now now.taken.now.items now.outbox.now → AllPay (opened_of plan opening inputs stalls) r had (had + free)
-            → (reach : ℕ → ℕ → Option ℕ) → AreReaches (opened_of plan opening inputs stalls) plan.code r had (had + free) date reach
-            → (variable : ℕ) → slice_get reaches' variable ≡ Some (reach had variable) → slice_get reaches'' variable ≡ Some (reach (had + count) variable)
+            → Steps (opened_of plan opening inputs stalls) plan.code r had free date count answer machine' after.outbox.now.sends after.taken.now.items reaches' reaches''
 
-        pub reached_behind : IsReached → (opening : Opening) (inputs : List (List ℤ)) (stalls : ℕ → List Stall) (r : Action) (had : ℕ) → IsMeant (Begins charge0) plan start date most first before opening inputs stalls r had
-            → (reach : ℕ → ℕ → Option ℕ) → AreReaches (opened_of plan opening inputs stalls) plan.code r had (had + most) date reach
-            → (variable : ℕ) → slice_get reaches variable ≡ Some (reach had variable) → slice_get reaches'' variable ≡ Some (reach (had + (n + count)) variable)
-        reached_behind law opening inputs stalls r had m reach are variable at =
-            law opening inputs stalls r (had + n) (part opening inputs stalls r had m) (part_pays opening inputs stalls r had m) reach
-            (λ u variable look low high less is. are u variable look (omega (arith, low)) (omega (arith, high, fits)) less is) variable (kept.reached opening inputs stalls r had m reach are variable at)
-            ∙ ap (λ u. Some (reach u variable)) (sum_of had n count)
+        module _ (law : Leaves) where
+          -- behind those before
+          steps_behind : (opening : Opening) (inputs : List (List ℤ)) (stalls : ℕ → List Stall) (r : Action) (had : ℕ) → IsMeant (Begins charge0) plan start date most first before opening inputs stalls r had
+              → Steps (opened_of plan opening inputs stalls) plan.code r (had + n) free date count answer machine' after.outbox.now.sends after.taken.now.items reaches' reaches''
+          steps_behind opening inputs stalls r had m = law opening inputs stalls r (had + n) (part opening inputs stalls r had m) (part_pays opening inputs stalls r had m)
 
-        module _ (of : IsOf plan.code machine') (as_many : length reaches'' ≡ length reaches') (same_taken : after.taken.ghost_name ≡ now.taken.ghost_name) (same_outbox : after.outbox.ghost_name ≡ now.outbox.ghost_name)
-            (scene : after.scene.now ≡ now.scene.now) (size : after.outbox.now.size ≡ now.outbox.now.size) (taking : length after.taken.now.items ≡ length now.taken.now.items)
-            (others : (stream : ℕ) → (is_mine now.scene.now stream ≡ Some true → ⊥) → slice_get after.taken.now.items stream ≡ slice_get now.taken.now.items stream) (reached : IsReached) where
-          pub others_behind : (stream : ℕ) → (is_mine before.scene.now stream ≡ Some true → ⊥) → slice_get after.taken.now.items stream ≡ slice_get before.taken.now.items stream
-          others_behind stream other = others stream (λ mine. other (sym (ap (λ x. is_mine x stream) kept.scene) ∙ mine)) ∙ kept.others stream other
+          reached_behind : (opening : Opening) (inputs : List (List ℤ)) (stalls : ℕ → List Stall) (r : Action) (had : ℕ) → IsMeant (Begins charge0) plan start date most first before opening inputs stalls r had
+              → ReachOn (opened_of plan opening inputs stalls) plan.code r had most date (n + count) reaches reaches''
+          reached_behind opening inputs stalls r had m reach are variable at =
+              (steps_behind opening inputs stalls r had m).reached reach
+              (λ u variable look low high less is. are u variable look (omega (arith, low)) (omega (arith, high, f.fits)) less is) variable (f.kept.reached opening inputs stalls r had m reach are variable at)
+              ∙ ap (λ u. Some (reach u variable)) (sum_of had n count)
 
-          -- where the action goes on
-          pub kept_behind : (whole : count ≡ free) → ((opening : Opening) (inputs : List (List ℤ)) (stalls : ℕ → List Stall) (r : Action) (had : ℕ)
-              → MayGoOn (opened_of plan opening inputs stalls) plan.code r had (had + free) start date machine now.scene.now now.taken.now.items now.outbox.now → AllPay (opened_of plan opening inputs stalls) r had (had + free)
-              → IsOnWay (opened_of plan opening inputs stalls) plan.code r (had + free) machine' after.outbox.now.sends after.taken.now.items)
-              → AreKept (Begins charge0) plan start date most first before reaches (n + count) machine' after reaches''
-          kept_behind whole law = record {
-            of = of;
-            reaching = as_many ∙ kept.reaching;
-            same_taken = same_taken ∙ kept.same_taken;
-            same_outbox = same_outbox ∙ kept.same_outbox;
-            scene = scene ∙ kept.scene;
-            size = size ∙ kept.size;
-            taking = taking ∙ kept.taking;
-            others = others_behind;
-            on_way = λ opening inputs stalls r had m.
-                subst (λ u. IsOnWay (opened_of plan opening inputs stalls) plan.code r u machine' after.outbox.now.sends after.taken.now.items) (omega (arith, whole))
-                (law opening inputs stalls r (had + n) (part opening inputs stalls r had m) (part_pays opening inputs stalls r had m));
-            reached = reached_behind reached;
-          }
+          module _ (of : IsOf plan.code machine') (as_many : length reaches'' ≡ length reaches') (same_taken : after.taken.ghost_name ≡ now.taken.ghost_name) (same_outbox : after.outbox.ghost_name ≡ now.outbox.ghost_name)
+              (scene : after.scene.now ≡ now.scene.now) (size : after.outbox.now.size ≡ now.outbox.now.size) (taking : length after.taken.now.items ≡ length now.taken.now.items)
+              (others : (stream : ℕ) → (is_mine now.scene.now stream ≡ Some true → ⊥) → slice_get after.taken.now.items stream ≡ slice_get now.taken.now.items stream) where
+            pub others_behind : (stream : ℕ) → (is_mine before.scene.now stream ≡ Some true → ⊥) → slice_get after.taken.now.items stream ≡ slice_get before.taken.now.items stream
+            others_behind stream other = others stream (λ mine. other (sym (ap (λ x. is_mine x stream) f.kept.scene) ∙ mine)) ∙ f.kept.others stream other
 
-        -- where it is over
-        module _ (opening : Opening) (inputs : List (List ℤ)) (stalls : ℕ → List Stall) (r : Action) (had : ℕ) (m : IsMeant (Begins charge0) plan start date most first before opening inputs stalls r had) where
-          abbrev s : System
-          s = opened_of plan opening inputs stalls
+            -- where the action goes on
+            pub kept_behind : count ≡ free → answer ≡ step.Went → AreKept (Begins charge0) plan start date most first before reaches (n + count) machine' after reaches''
+            kept_behind whole went = record {
+              of = of;
+              reaching = as_many ∙ f.kept.reaching;
+              same_taken = same_taken ∙ f.kept.same_taken;
+              same_outbox = same_outbox ∙ f.kept.same_outbox;
+              scene = scene ∙ f.kept.scene;
+              size = size ∙ f.kept.size;
+              taking = taking ∙ f.kept.taking;
+              others = others_behind;
+              on_way = λ opening inputs stalls r had m.
+                  subst (λ u. IsOnWay (opened_of plan opening inputs stalls) plan.code r u machine' after.outbox.now.sends after.taken.now.items) (omega (arith, whole)) ((steps_behind opening inputs stalls r had m).on_way went);
+              reached = reached_behind;
+            }
 
-          same_last : had + n + count - 1 ≡ had + (n + count) - 1
-          same_last = omega arith
+          -- where it is over
+          module _ (opening : Opening) (inputs : List (List ℤ)) (stalls : ℕ → List Stall) (r : Action) (had : ℕ) (m : IsMeant (Begins charge0) plan start date most first before opening inputs stalls r had) where
+            abbrev s : System
+            s = opened_of plan opening inputs stalls
 
-          charge_was : charge_after s r (had + n + count) ≡ charge'
-          charge_was = ap (λ u. charge_after s r u) (sum_of had n count) ∙ sym (charged_behind opening inputs stalls r had m)
+            same_last : had + n + count - 1 ≡ had + (n + count) - 1
+            same_last = omega arith
 
-          abbrev IsPart : (Step → Type 0) → Step → Type 0
-          IsPart Then answer = MayGoOn s plan.code r (had + n) (had + n + free) start date machine now.scene.now now.taken.now.items now.outbox.now → AllPay s r (had + n) (had + n + free) → (answer ≡ step.Went → ⊥) → Then answer
+            charge_was : charge_after s r (had + n + count) ≡ charge'
+            charge_was = ap (λ u. charge_after s r u) (sum_of had n count) ∙ sym (charged_behind opening inputs stalls r had m)
 
-          abbrev AfterBy : Step → Type 0
-          AfterBy answer = AfterCycles s plan.code r (had + n) count (gone_by (charge_after s r (had + n + count)) answer) (charge_after s r (had + n + count)) machine'
+            abbrev pub GoneBy : Step → Gone
+            GoneBy known = gone_by (charge_after s r (had + n + count)) known
 
-          pub over_behind : (answer known : Step) → answer ≡ known → (known ≡ step.Went → ⊥) → IsPart AfterBy answer → AfterCycles s plan.code r had (n + count) (gone_by (charge_after s r (had + n + count)) known) charge' machine'
-          over_behind answer known is other law =
-              let a : AfterBy known = subst AfterBy is (law (part opening inputs stalls r had m) (part_pays opening inputs stalls r had m) (λ e. other (sym is ∙ e))) in
-              subst (λ v. AfterCycle s plan.code r v (gone_by (charge_after s r (had + n + count)) known) charge' machine') same_last
-              (subst (λ c. AfterCycle s plan.code r (had + n + count - 1) (gone_by (charge_after s r (had + n + count)) known) c machine') charge_was a)
-
-          abbrev DoneBy : Step → Type 0
-          DoneBy answer = HasDoneIn s plan.code r (had + n) count after.outbox.now.sends after.taken.now.items (gone_by (charge_after s r (had + n + count)) answer)
-
-          pub done_behind : (answer known : Step) → answer ≡ known → (known ≡ step.Went → ⊥) → IsPart DoneBy answer
-              → HasDoneIn s plan.code r had (n + count) after.outbox.now.sends after.taken.now.items (gone_by (charge_after s r (had + n + count)) known)
-          done_behind answer known is other law =
-              let d : DoneBy known = subst DoneBy is (law (part opening inputs stalls r had m) (part_pays opening inputs stalls r had m) (λ e. other (sym is ∙ e))) in
-              subst (λ v. HasDoneBy s plan.code r v after.outbox.now.sends after.taken.now.items (gone_by (charge_after s r (had + n + count)) known)) same_last d
+            pub over_behind : (known : Step) → answer ≡ known → (known ≡ step.Went → ⊥) → Passes s plan.code r had most date (n + count) (GoneBy known) charge' machine' after.outbox.now.sends after.taken.now.items reaches reaches''
+            over_behind known is other =
+                let over = (steps_behind opening inputs stalls r had m).over (λ e. other (sym is ∙ e)) in
+                let was = subst (λ g. AfterCycles s plan.code r (had + n) count g (charge_after s r (had + n + count)) machine') (ap GoneBy is) over.after in
+                let did = subst (HasDoneIn s plan.code r (had + n) count after.outbox.now.sends after.taken.now.items) (ap GoneBy is) over.did in
+                record {
+                  after = subst (λ v. AfterCycle s plan.code r v (GoneBy known) charge' machine') same_last
+                      (subst (λ c. AfterCycle s plan.code r (had + n + count - 1) (GoneBy known) c machine') charge_was was);
+                  did = subst (λ v. HasDoneBy s plan.code r v after.outbox.now.sends after.taken.now.items (GoneBy known)) same_last did;
+                  reached = reached_behind opening inputs stalls r had m;
+                }
 
   -- ---- behind the loop
 

@@ -14,11 +14,11 @@ use Rattle.psy_history.specs.Regular.{IsLawful}
 use Rattle.psy_history.specs.Processors.{processor_at, processors}
 use Rattle.psy_history.specs.Scheduled.{IsFinished, IsSupplied, turns_by, turns_of}
 use Rattle.psy_dates.specs.Standing.{dates_done}
-use Rattle.psy_kernel.specs.declared.engine.Figure.{Figure}
 use Rattle.psy_kernel.specs.declared.engine.Engine.TheInside.{Inside}
+use Rattle.psy_kernel.specs.declared.engine.Runner.{Runner}
 use Rattle.psy_kernel.specs.Engines.{summary_on}
 use Rattle.psy_kernel.specs.Standing.{InTick, EngineStands, most_held_in, settled, state_of}
-use Rattle.psy_kernel.specs.Telling.{figure_line, figured_lines, held_line, reach_line}
+use Rattle.psy_kernel.specs.Telling.{figure_in, figure_line, figured_lines, held_line, reach_line}
 use Rattle.psy_kernel.specs.Texts.{agent_end, stream_end, variable_end}
 use Rattle.psy_kernel.proofs.DatesDue.{SameReach}
 use Rattle.psy_kernel.proofs.Engines.{cycles_is, order_in, run_in, server_there, turns_in}
@@ -85,12 +85,11 @@ module _ (k : Inside) (w : EngineStands k) (done : dates_done k.shared.date ≡ 
     all_settled agent =
         settled_all (turns agent) until (actions agent) (date_settled s (order_in k) until agent lawful (λ r. due agent r (supplied (state_of k) w.plan w.script lawful)))
 
-    figure_told : (agent : ℕ) (figure : Figure) → agent < length s.unit.agents → slice_get k.figures.items agent ≡ Some figure
-        → agent_line (agent_at s.unit agent).name figure.count figure.slack ≡ agent_end s turns until agent
-    figure_told agent figure l at =
-        let machine = some_at k.machines.items agent (omega (arith, l, w.machined)) in
-        let charge = some_at k.charges.items agent (omega (arith, l, w.charges)) in
-        let stands = w.agents agent machine.0 charge.0 figure machine.1 charge.1 at in
+    figure_told : (agent : ℕ) (runner : Runner) → slice_get k.runners.items agent ≡ Some runner
+        → agent_line (agent_at s.unit agent).name runner.figure.count runner.figure.slack ≡ agent_end s turns until agent
+    figure_told agent runner at =
+        let figure = runner.figure in
+        let stands = w.agents agent runner at in
         let count : figure.count ≡ due_count s agent (settled (turns agent) until (actions agent)) =
         stands.counted ∙ ap (λ ts. due_count s agent (settled ts until (history s (dates_done k.shared.date) agent))) (all_turns agent)
         ∙ ap (λ n. due_count s agent (settled (turns agent) until (history s n agent))) done in
@@ -101,22 +100,23 @@ module _ (k : Inside) (w : EngineStands k) (done : dates_done k.shared.date ≡ 
         ap (λ n. agent_line name n figure.slack) (count ∙ ap (due_count s agent) (all_settled agent))
         ∙ ap (agent_line name (due_count s agent (due_by until (actions agent)))) (least ∙ ap (least_slack s (turns agent) agent) (all_settled agent))
 
-    agent_told : (agent : ℕ) → agent < length s.unit.agents → figure_line k.plan.unit k.figures.items agent ≡ agent_end s turns until agent
+    agent_told : (agent : ℕ) → agent < length s.unit.agents → figure_line k.plan.unit k.runners.items agent ≡ agent_end s turns until agent
     agent_told agent l =
-        figure_told agent (get_or k.figures.items agent (record { count = 0; slack = None })) l (slice_get-get_or k.figures.items agent (record { count = 0; slack = None }) (omega (arith, l, w.figured)))
+        let runner = some_at k.runners.items agent (omega (arith, l, w.run)) in
+        ap (λ o. agent_line (agent_at s.unit agent).name (figure_in o).count (figure_in o).slack) runner.1 ∙ figure_told agent runner.0 runner.1
 
     -- The figures, the reaches and what was held tell the summary.
-    pub summary_figured : SameReach → summary_on (state_of k) ≡ figured_lines k.plan k.figures.items k.reaches.items k.helds.items
+    pub summary_figured : SameReach → summary_on (state_of k) ≡ figured_lines k.plan k.runners.items k.reaches.items k.helds.items
     summary_figured same =
         let agents = range_with_len 0 (length s.unit.agents) in
         let variables = range_with_len 0 (length s.unit.variables) in
         let streams = range_with_len 0 (length s.unit.streams) in
-        let of_agents : map (agent_end s turns until) agents ≡ map (figure_line k.plan.unit k.figures.items) agents =
-        sym (same_map (figure_line k.plan.unit k.figures.items) (agent_end s turns until) (length s.unit.agents) agent_told) in
+        let of_agents : map (agent_end s turns until) agents ≡ map (figure_line k.plan.unit k.runners.items) agents =
+        sym (same_map (figure_line k.plan.unit k.runners.items) (agent_end s turns until) (length s.unit.agents) agent_told) in
         let of_variables : map (variable_end s turns k.plan.sizes until) variables ≡ map (reach_line k.plan k.reaches.items) variables =
         sym (same_map (reach_line k.plan k.reaches.items) (variable_end s turns k.plan.sizes until) (length s.unit.variables) (variable_told same)) in
         let of_streams : map (stream_end s k.plan.sizes until) streams ≡ map (held_line k.plan k.helds.items) streams =
         sym (same_map (held_line k.plan k.helds.items) (stream_end s k.plan.sizes until) (length s.unit.streams) stream_told) in
         ap (λ lines. end_line until ∷ (map (agent_end s turns until) agents ++ (map (variable_end s turns k.plan.sizes until) variables ++ lines))) of_streams
         ∙ ap (λ lines. end_line until ∷ (lines ++ (map (variable_end s turns k.plan.sizes until) variables ++ map (held_line k.plan k.helds.items) streams))) of_agents
-        ∙ ap (λ lines. end_line until ∷ (map (figure_line k.plan.unit k.figures.items) agents ++ (lines ++ map (held_line k.plan k.helds.items) streams))) of_variables
+        ∙ ap (λ lines. end_line until ∷ (map (figure_line k.plan.unit k.runners.items) agents ++ (lines ++ map (held_line k.plan k.helds.items) streams))) of_variables

@@ -6,7 +6,6 @@ use Rattle.psy_base.specs.declared.limits.TheConstants.{ADVANCE, QUANTUM}
 use Rattle.psy_base.specs.declared.sizes.Sizes.{Sizes}
 use Rattle.psy_clock.specs.Dates.{IsClock}
 use Rattle.psy_budget.specs.declared.charge.Stall.{Stall}
-use Rattle.psy_budget.specs.Charges.{Charged}
 use Rattle.psy_code.specs.declared.code.Code.{Code}
 use Rattle.psy_code.specs.declared.look.Sent.{Sent}
 use Rattle.psy_queue.specs.Order.{Queued}
@@ -19,7 +18,6 @@ use Rattle.psy_history.specs.Compiled.{AreInputs}
 use Rattle.psy_history.specs.Rings.{age_at}
 use Rattle.psy_history.specs.Processors.{processor_at}
 use Rattle.psy_history.specs.Scheduled.{gone_to, turns_by}
-use Rattle.psy_machine.specs.Stepping.{AgentMachine}
 use Rattle.psy_history.specs.Actions.{Action, Opening, System, Done, stream_of, timing, variable_of}
 use Rattle.psy_base.specs.Extremes.{greater, lesser}
 use Rattle.psy_history.specs.History.{history}
@@ -28,6 +26,7 @@ use Rattle.psy_history.specs.Summary.{reach}
 use Rattle.psy_meaning.specs.Timing.{Timing, clock_at, end_date, point_at}
 use Rattle.psy_kernel.specs.Acting.{IsLookIn, IsOfCode, SeesAs, ShowsAs}
 use Rattle.psy_kernel.specs.declared.engine.Figure.{Figure}
+use Rattle.psy_kernel.specs.declared.engine.Runner.{Runner}
 use Rattle.psy_history.specs.declared.told.Order.{Order}
 use Rattle.psy_history.specs.declared.told.Script.{Script}
 use Rattle.psy_history.specs.Scripts.{IsScript, order_of, stalls_of}
@@ -53,9 +52,9 @@ pub record MayEnd (timing : Timing) (start point : ℕ) : Type 0 where
   pub early : start ≤ 2 ^ 40
 
 -- What an agent has, with its seat and the copies that are kept of what it owns
-pub record OneStands (s : System) (code : Code) (turns : List (Option Turn)) (until date agent : ℕ) (actions : List Action) (charge : Charged)
-    (machine : AgentMachine) (waits : Option ℕ) (figure : Figure) (seat : Seat) (ended : List ℤ) : Type 0 where
-  pub stands : AgentStands s code turns until agent actions charge machine waits figure
+pub record OneStands (s : System) (code : Code) (turns : List (Option Turn)) (until date agent : ℕ) (actions : List Action) (runner : Runner)
+    (waits : Option ℕ) (seat : Seat) (ended : List ℤ) : Type 0 where
+  pub stands : AgentStands s code turns until agent actions runner waits
   pub seated : SeatStands date turns actions seat
   pub kept : (variable : ℕ) (value : ℤ) → slice_get ended variable ≡ Some value → (variable_of s variable).owner ≡ Some agent
       → KeepsCopy date turns variable actions value
@@ -93,10 +92,10 @@ pub record ActsIn (s : System) (code : Code) (r : Action) (had : ℕ) (sight : S
 -- The same in the run of a plan with these inputs and stalls that begins so, what the agent has before the cycle, what its action sees then,
 -- and what it has done
 pub record IsGiven (plan : Plan) (opening : Opening) (inputs : List (List ℤ)) (stalls : ℕ → List Stall) (turns : List (Option Turn))
-    (date cycle agent : ℕ) (r : Action) (before : List Action) (charge : Charged) (machine : AgentMachine) (waits : Option ℕ) (figure : Figure)
+    (date cycle agent : ℕ) (r : Action) (before : List Action) (runner : Runner) (waits : Option ℕ)
     (seat : Seat) (ended : List ℤ) (sight : Sight) (taken : List ℕ) (outbox : Outboxed) : Type 0 where
   pub gets : GetsCycle (opened_of plan opening inputs stalls) plan.code turns plan.until date cycle agent r before
-  pub has : OneStands (opened_of plan opening inputs stalls) plan.code turns plan.until date agent (r ∷ before) charge machine waits figure seat ended
+  pub has : OneStands (opened_of plan opening inputs stalls) plan.code turns plan.until date agent (r ∷ before) runner waits seat ended
   pub acts : ActsIn (opened_of plan opening inputs stalls) plan.code r (units r.agent r.number turns) sight taken outbox
 
 -- How far back a variable's ring is reached for, with the look of a cycle at a date, of an action that started at another

@@ -19,8 +19,8 @@ use Rattle.psy_history.specs.Regular.{begun_by}
 use Rattle.psy_dates.specs.Outboxes.{Outboxed}
 use Rattle.psy_dates.specs.Plans.{IsPlan, IsSoundFor}
 use Rattle.psy_dates.specs.Standing.{SharedStands, dates_done}
-use Rattle.psy_kernel.specs.declared.engine.Figure.{Figure}
 use Rattle.psy_kernel.specs.declared.engine.Engine.TheInside.{Inside}
+use Rattle.psy_kernel.specs.declared.engine.Runner.{Runner}
 use Rattle.psy_kernel.specs.declared.engine.Server.{Server}
 use Rattle.psy_history.specs.Processors.{processor_at, processors}
 use Rattle.psy_tree.specs.declared.unit.Unit.{Unit as Whole}
@@ -96,15 +96,15 @@ abbrev pub settled : List (Option Turn) → ℕ → List Action → List Action
 settled turns until actions = filter (λ r. not (is_pending turns r)) (due_by until actions)
 
 -- What an agent has, where its actions are these; its figure goes on from that of the beginning.
-pub record AgentStands (s : System) (code : Code) (turns : List (Option Turn)) (until agent : ℕ) (actions : List Action) (charge : Charged)
-    (machine : AgentMachine) (waits : Option ℕ) (figure : Figure) : Type 0 where
-  pub charged : ChargeStands s turns agent actions charge
-  pub is_agent : machine.agent ≡ agent
-  pub of_code : IsOf code machine
-  pub executes : MachineStands s code turns agent actions machine
+pub record AgentStands (s : System) (code : Code) (turns : List (Option Turn)) (until agent : ℕ) (actions : List Action) (runner : Runner)
+    (waits : Option ℕ) : Type 0 where
+  pub charged : ChargeStands s turns agent actions runner.charge
+  pub is_agent : runner.machine.agent ≡ agent
+  pub of_code : IsOf code runner.machine
+  pub executes : MachineStands s code turns agent actions runner.machine
   pub ready : waits ≡ deadline_of turns actions
-  pub counted : figure.count ≡ due_count s agent (settled turns until actions)
-  pub slacked : figure.slack ≡ least_slack s turns agent (settled turns until actions)
+  pub counted : runner.figure.count ≡ due_count s agent (settled turns until actions)
+  pub slacked : runner.figure.slack ≡ least_slack s turns agent (settled turns until actions)
 
 -- ---- the order and the choice
 
@@ -187,8 +187,7 @@ pub record EngineStands (k : Inside) : Type 0 where
   pub served : length k.servers.items ≡ processors k.plan.unit
   pub servers : (processor : ℕ) (server : Server) → slice_get k.servers.items processor ≡ Some server → ServerStands (state_of k) processor server
   pub shared : SharedStands (history_of (state_of k)) k.plan.sizes (turns_done (state_of k)) (dates_done k.shared.date) k.shared
-  pub machined : length k.machines.items ≡ length k.plan.unit.agents
-  pub charges : length k.charges.items ≡ length k.plan.unit.agents
+  pub run : length k.runners.items ≡ length k.plan.unit.agents
   pub reaching : length k.reaches.items ≡ length k.plan.unit.variables
   pub reached : (variable : ℕ) (n : Option ℕ) → slice_get k.reaches.items variable ≡ Some n
       → n ≡ reach (history_of (state_of k)) (turns_done (state_of k)) (history (history_of (state_of k)) (dates_done k.shared.date)) variable
@@ -197,12 +196,9 @@ pub record EngineStands (k : Inside) : Type 0 where
   pub doing : (agent : ℕ) (outbox : Outboxed) → slice_get k.shared.outboxes.items agent ≡ Some outbox
       → DeedsStand (history_of (state_of k)) k.plan.code (turns_done (state_of k) agent)
       (history (history_of (state_of k)) (dates_done k.shared.date) agent) outbox.sends k.shared.taken.items
-  pub figured : length k.figures.items ≡ length k.plan.unit.agents
-  pub agents : (agent : ℕ) (machine : AgentMachine) (charge : Charged) (figure : Figure)
-      → slice_get k.machines.items agent ≡ Some machine → slice_get k.charges.items agent ≡ Some charge
-      → slice_get k.figures.items agent ≡ Some figure
+  pub agents : (agent : ℕ) (runner : Runner) → slice_get k.runners.items agent ≡ Some runner
       → AgentStands (history_of (state_of k)) k.plan.code (turns_done (state_of k) agent) k.plan.until agent
-      (history (history_of (state_of k)) (dates_done k.shared.date) agent) charge machine (waits_on k.plan.unit k.servers.items agent) figure
+      (history (history_of (state_of k)) (dates_done k.shared.date) agent) runner (waits_on k.plan.unit k.servers.items agent)
   pub all : k.declared.items ≡ range_with_len 0 (length k.plan.unit.agents)
   pub place : k.place ≤ length k.plan.unit.agents + length k.plan.unit.variables + length k.plan.unit.streams
   -- nothing is left to tell of a date that was done before

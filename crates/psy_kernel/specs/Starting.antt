@@ -6,11 +6,12 @@ use Rattle.psy_code.specs.declared.code.Code.{Code}
 use Rattle.psy_dates.specs.declared.seat.Phase.{Phase}
 use Rattle.psy_dates.specs.declared.seat.Phase.TheVariants as phase
 use Rattle.psy_dates.specs.declared.seat.Seat.{Seat}
-use Rattle.psy_machine.specs.Stepping.{AgentMachine, IsNew, IsOf}
+use Rattle.psy_machine.specs.Stepping.{IsNew, IsOf}
 use Rattle.psy_queue.specs.Order.{Queued}
 use Rattle.psy_tree.specs.declared.unit.AgentDecl.{AgentDecl}
 use Rattle.psy_tree.specs.declared.unit.Point.{Point}
 use Rattle.psy_history.specs.declared.told.Script.{Script}
+use Rattle.psy_kernel.specs.declared.engine.Runner.{Runner}
 use Rattle.psy_kernel.specs.declared.engine.Server.{Server}
 use Rattle.psy_kernel.specs.Standing.{ready_of}
 use Rattle.psy_ready.specs.Choice.{pending_deadline}
@@ -19,13 +20,20 @@ use Rattle.psy_tree.specs.Parts.{no_agent}
 
 -- ---- before date 0
 
--- Each of these machines is that of the agent of its number, which hasn't started.
-abbrev pub AreNew : Code → List AgentMachine → Type 0
-AreNew code machines = (agent : ℕ) (machine : AgentMachine) → slice_get machines agent ≡ Some machine → IsNew code agent machine × IsOf code machine
-
 -- The charge of an agent none of whose actions has started
 abbrev pub first_charge : Script → ℕ → Charged
 first_charge script agent = record { stalls = stalls_of script agent; started = 0; budget = 0; consumed = 0; paid = 0 }
+
+-- What an agent has none of whose actions has started: a new machine, its first charge, and a figure of nothing
+pub record IsNewRunner (code : Code) (script : Script) (agent : ℕ) (runner : Runner) : Type 0 where
+  pub new : IsNew code agent runner.machine
+  pub of_code : IsOf code runner.machine
+  pub charge : runner.charge ≡ first_charge script agent
+  pub figure : runner.figure ≡ record { count = 0; slack = None }
+
+-- The same of each agent
+abbrev pub AreNew : Code → Script → List Runner → Type 0
+AreNew code script runners = (agent : ℕ) (runner : Runner) → slice_get runners agent ≡ Some runner → IsNewRunner code script agent runner
 
 -- A processor before its first cycle, for which none of so many agents waits, where so many orders are in force from cycle 0 on
 abbrev pub first_server : ℕ → ℕ → Server
@@ -59,6 +67,10 @@ points_at agents agent = (slice_index_or agents agent no_agent).points
 abbrev pub charge_at : ℕ → List Seat → List AgentDecl → ℕ → Charged → Charged
 charge_at date seats agents agent charge = if starts_at date (seat_at seats agent) then after_start charge
     (budget_in (points_at agents agent) (seat_at seats agent).point) else charge
+
+-- What it has then
+abbrev pub runner_at : ℕ → List Seat → List AgentDecl → ℕ → Runner → Runner
+runner_at date seats agents agent runner = record runner { charge = charge_at date seats agents agent runner.charge }
 
 -- The deadline for which it waits then
 abbrev pub deadline_at : ℕ → List Seat → ℕ → Option ℕ → Option ℕ

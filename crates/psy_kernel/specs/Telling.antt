@@ -21,6 +21,7 @@ use Rattle.psy_dates.specs.Standing.{SharedStands}
 use Rattle.psy_dates.specs.declared.seat.Phase.TheVariants as phase
 use Rattle.psy_dates.specs.declared.seat.Seat.{Seat}
 use Rattle.psy_kernel.specs.declared.engine.Figure.{Figure}
+use Rattle.psy_kernel.specs.declared.engine.Runner.{Runner}
 use Rattle.psy_kernel.specs.declared.engine.lines.Mark.{Mark}
 use Rattle.psy_kernel.specs.Standing.{told_from}
 use Rattle.psy_kernel.specs.Texts.{event_line}
@@ -85,10 +86,15 @@ IsNextTold s date end place shown None old new = (told_from s date end 0 ≡ tol
 
 -- ---- lines of the summary
 
+-- The figure of an agent: of nothing where there is none
+abbrev pub figure_in : Option Runner → Figure
+figure_in None = record { count = 0; slack = None }
+figure_in (Some runner) = runner.figure
+
 -- An agent's line, by its figure
-abbrev pub figure_line : Whole → List Figure → ℕ → List ℕ
-figure_line unit figures agent =
-    let figure = get_or figures agent (record { count = 0; slack = None }) in
+abbrev pub figure_line : Whole → List Runner → ℕ → List ℕ
+figure_line unit runners agent =
+    let figure = figure_in (slice_get runners agent) in
     agent_line (agent_at unit agent).name figure.count figure.slack
 
 -- A variable's line, by how far back its ring was reached for
@@ -99,10 +105,10 @@ reach_line plan reaches variable = variable_line (variable_at plan.unit variable
 abbrev pub held_line : Plan → List ℕ → ℕ → List ℕ
 held_line plan helds stream = stream_line (stream_at plan.unit stream).name (get_or plan.sizes.queues stream 0) (get_or helds stream 0)
 
--- The lines of the summary, by the figures, by how far back rings were reached for and by how many messages streams held
-abbrev pub figured_lines : Plan → List Figure → List (Option ℕ) → List ℕ → List (List ℕ)
-figured_lines plan figures reaches helds =
+-- The lines of the summary, by what the agents have, by how far back rings were reached for and by how many messages streams held
+abbrev pub figured_lines : Plan → List Runner → List (Option ℕ) → List ℕ → List (List ℕ)
+figured_lines plan runners reaches helds =
     end_line plan.until
-    ∷ (map (figure_line plan.unit figures) (range_with_len 0 (length plan.unit.agents))
+    ∷ (map (figure_line plan.unit runners) (range_with_len 0 (length plan.unit.agents))
     ++ (map (reach_line plan reaches) (range_with_len 0 (length plan.unit.variables))
     ++ map (held_line plan helds) (range_with_len 0 (length plan.unit.streams))))

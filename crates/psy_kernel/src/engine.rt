@@ -24,6 +24,14 @@ struct Figure {
     slack: Option<u64>,
 }
 
+/// What an agent has of its own: its machine, the charge of its action, and its figure.
+#[derive(Drop)]
+struct Runner {
+    machine: Machine,
+    charge: Charge,
+    figure: Figure,
+}
+
 /// A processor: how many of its cycles were done, which of its agents wait for it, and which of them gets its next cycle.
 #[derive(Drop)]
 struct Server {
@@ -48,9 +56,7 @@ pub struct Engine {
     opening: Option<Opening>,
     shared: Shared,
     /// By agent.
-    machines: Vec<Machine>,
-    charges: Vec<Charge>,
-    figures: Vec<Figure>,
+    runners: Vec<Runner>,
     /// By processor.
     servers: Vec<Server>,
     /// By variable, how far back its ring was reached for, and none where it never was.

@@ -6,14 +6,14 @@ ghost use Rattle.psy_clock.specs.Dates.{IsClock};
 ghost use Rattle.psy_code.specs.Views.{past_of};
 ghost use Rattle.psy_meaning.specs.RingSizes.{dates_between};
 ghost use Rattle.psy_queue.specs.Order.{Queued, message_values};
-ghost use Rattle.psy_kernel.specs.Seeing.{CanSee, Sight, clock_in, seen_by, view_in};
+ghost use Rattle.psy_kernel.specs.Seeing.{CanSee, Sight, clock_in, seen_by, sight_in, view_in};
 
 use psy_clock::Clock;
 use psy_code::{Look, Sent};
 use psy_dates::Outbox;
 use psy_queue::Queue;
 use psy_ring::Ring;
-use psy_tree::{StreamDecl, VarDecl};
+use psy_tree::{StreamDecl, Unit, VarDecl};
 use std::marker::Model;
 
 /// What an agent's action that started at one date looks at, at another, while others publish and send on: a value is found as many places
@@ -76,35 +76,24 @@ pub fn dates_between(clock: Clock, behind: u64, upto: u64) -> u64
 }
 
 impl<'a> Scene<'a> {
-    /// What an agent's action that started at a date looks at, at another one.
+    /// What the action of a program's agent that started at a date looks at, at another one.
     pub fn new(
+        unit: &'a Unit,
         rings: &'a [Ring],
-        variables: &'a [VarDecl],
-        clocks: &'a [Clock],
         queues: &'a [Queue],
-        streams: &'a [StreamDecl],
         agent: u32,
         start: u64,
         date: u64,
     ) -> Scene<'a>
-        requires { CanSee rings.now clocks.now start date }
-        ensures { result ≡ record {
-          rings = rings.now;
-          variables = variables.now;
-          clocks = clocks.now;
-          queues = queues.now;
-          streams = streams.now;
-          agent = agent;
-          start = start;
-          date = date;
-        } }
+        requires { CanSee rings.now unit.now.clocks start date }
+        ensures { result ≡ sight_in unit.now rings.now queues.now agent start date }
     {
         Scene {
             rings,
-            variables,
-            clocks,
+            variables: unit.variables.as_slice(),
+            clocks: unit.clocks.as_slice(),
             queues,
-            streams,
+            streams: unit.streams.as_slice(),
             agent,
             start,
             date,

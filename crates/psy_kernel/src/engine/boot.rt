@@ -9,9 +9,9 @@ ghost use Rattle.psy_history.specs.Compiled.{AreInputs};
 ghost use Rattle.psy_kernel.specs.Engines.{begun};
 ghost use Rattle.psy_history.specs.Scripts.{IsScript, StallBefore, stalls_of};
 ghost use Rattle.psy_kernel.specs.Standing.{AreInForce};
-ghost use Rattle.psy_kernel.specs.Starting.{AreNew, first_charge, first_server};
+ghost use Rattle.psy_kernel.specs.Starting.{AreNew, IsNewRunner, first_charge, first_server};
 
-use super::{Engine, Figure, Server};
+use super::{Engine, Figure, Runner, Server};
 use psy_base::{Items, Memory};
 use psy_budget::{Charge, Stall};
 use psy_code::Code;
@@ -21,19 +21,6 @@ use psy_history::{Inputs, Order, Script, processors_of};
 use psy_machine::Machine;
 use psy_ready::Ready;
 use std::alloc::Global;
-
-/// By agent, its machine, which hasn't started.
-fn machines_of(alloc: Global, code: &Code) -> Result<Vec<Machine>, Memory>
-    requires { length code.now.agents ≤ AGENTS }
-    ensures count { IfOk result (λ machines. length machines.items ≡ length code.now.agents) }
-    ensures new { IfOk result (λ machines. AreNew code.now machines.items) }
-{
-    let mut machines = Vec::new(alloc);
-    'agents: for agent in 0..code.agents.len() {
-        machines.push(Machine::new(alloc, code, agent as u32)?)?;
-    }
-    Ok(machines)
-}
 
 /// The stalls of an agent.
 fn stalls_of(alloc: Global, script: &Script, agent: u32) -> Result<Items<Stall>, Memory>
@@ -57,16 +44,34 @@ fn charge_of(alloc: Global, script: &Script, agent: u32) -> Result<Charge, Memor
     Ok(Charge::new(stalls_of(alloc, script, agent)?))
 }
 
-/// By agent, its charge, none of whose actions has started.
-fn charges_of(alloc: Global, script: &Script, agents: u32) -> Result<Vec<Charge>, Memory>
-    requires { AllPairs StallBefore script.now.stalls }
-    ensures { IfOk result (λ charges. charges.items ≡ map (first_charge script.now) (range_with_len 0 agents)) }
+/// What an agent has none of whose actions has started.
+fn runner_of(alloc: Global, code: &Code, script: &Script, agent: u32) -> Result<Runner, Memory>
+    requires known { agent < length code.now.agents }
+    requires rise { AllPairs StallBefore script.now.stalls }
+    ensures { IfOk result (IsNewRunner code.now script.now agent) }
 {
-    let mut charges = Vec::new(alloc);
-    for agent in 0..agents {
-        charges.push(charge_of(alloc, script, agent)?)?;
+    Ok(Runner {
+        machine: Machine::new(alloc, code, agent)?,
+        charge: charge_of(alloc, script, agent)?,
+        figure: Figure {
+            count: 0,
+            slack: None,
+        },
+    })
+}
+
+/// By agent, what it has, none of whose actions has started.
+fn runners_of(alloc: Global, code: &Code, script: &Script) -> Result<Vec<Runner>, Memory>
+    requires few { length code.now.agents ≤ AGENTS }
+    requires rise { AllPairs StallBefore script.now.stalls }
+    ensures count { IfOk result (λ runners. length runners.items ≡ length code.now.agents) }
+    ensures new { IfOk result (λ runners. AreNew code.now script.now runners.items) }
+{
+    let mut runners = Vec::new(alloc);
+    'agents: for agent in 0..code.agents.len() {
+        runners.push(runner_of(alloc, code, script, agent as u32)?)?;
     }
-    Ok(charges)
+    Ok(runners)
 }
 
 /// So many agents, in the order of declaration.
@@ -136,12 +141,7 @@ impl Engine {
         fitting();
         reaches();
         let agents = plan.unit.agents.len() as u32;
-        let machines = machines_of(alloc, &plan.code)?;
-        let charges = charges_of(alloc, &script, agents)?;
-        let figures = vec![in alloc; Figure {
-            count: 0,
-            slack: None
-        }; agents as usize]?;
+        let runners = runners_of(alloc, &plan.code, &script)?;
         let reached = vec![in alloc; None; plan.unit.variables.len()]?;
         let helds = vec![in alloc; 0; plan.unit.streams.len()]?;
         let declared = declared_of(alloc, agents)?;
@@ -153,9 +153,7 @@ impl Engine {
             script,
             opening: None,
             shared,
-            machines,
-            charges,
-            figures,
+            runners,
             servers,
             reaches: reached,
             helds,

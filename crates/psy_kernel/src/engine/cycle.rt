@@ -29,7 +29,7 @@ ghost use Rattle.psy_kernel.specs.Engines.{IsOverOn, done_on, next_date};
 ghost use Rattle.psy_ready.specs.Choice.{pending_deadline};
 ghost use Rattle.psy_kernel.specs.Standing.{AreInForce, IsChosen};
 
-use super::stretch::go_on;
+use super::stretch::{Span, go_on};
 use super::{Engine, Figure, Server};
 use crate::eyes::{clock_in, dates_between};
 use psy_arith::Trap;
@@ -283,17 +283,18 @@ impl Engine {
             Some(agent) => {
                 let own = agent as usize;
                 let date = last_date(self.shared.date);
-                let lasted = go_on(
-                    &self.plan,
+                let span = Span {
                     agent,
                     cycle,
                     most,
                     date,
+                };
+                let lasted = go_on(
+                    &self.plan,
+                    span,
                     &self.shared.rings,
                     &self.shared.queues,
-                    &mut self.charges[own],
-                    &mut self.machines[own],
-                    &mut self.figures[own],
+                    &mut self.runners[own],
                     &mut self.shared.seats[own],
                     &mut self.shared.ended,
                     &mut self.shared.taken,

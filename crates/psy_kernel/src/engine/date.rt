@@ -6,10 +6,9 @@ ghost use Rattle.psy_kernel.specs.Engines.{next_date, told_of};
 ghost use Rattle.psy_kernel.specs.declared.engine.Server.{Server};
 ghost use Rattle.psy_tree.specs.declared.unit.AgentDecl.{AgentDecl};
 ghost use Rattle.psy_dates.specs.Movers.{IsDoneBelow, NamesAll};
-ghost use Rattle.psy_kernel.specs.Starting.{budget_in, charge_at, deadline_on, held_at, seat_at, starts_at, waits_in};
+ghost use Rattle.psy_kernel.specs.Starting.{budget_in, deadline_on, held_at, runner_at, seat_at, starts_at, waits_in};
 
-use super::{Engine, Server};
-use psy_budget::Charge;
+use super::{Engine, Runner, Server};
 use psy_dates::{Phase, Seat, at_date};
 use psy_history::laws::{fitting, given, on_time, one_of_them, openings, reaches, regular};
 use psy_queue::Queue;
@@ -38,18 +37,18 @@ fn start_all(
     seats: &[Seat],
     agents: &[AgentDecl],
     date: u64,
-    charges: &mut Vec<Charge>,
+    runners: &mut Vec<Runner>,
     servers: &mut Vec<Server>,
 )
     requires few { length agents.now ≤ AGENTS }
     requires seated { length seats.now ≡ length agents.now }
-    requires charged { length charges.old.items ≡ length agents.now }
+    requires run { length runners.old.items ≡ length agents.now }
     requires homes { All (λ (a : AgentDecl). a.processor < length servers.old.items) agents.now }
     requires waiting { All (λ (server : Server). length server.ready ≡ length agents.now) servers.old.items }
     requires known { All (λ agent. agent < length seats.now) movers.now }
     requires movers { NamesAll (λ agent. starts_at date (seat_at seats.now agent)) (length seats.now) 0 movers.now }
     requires free { (agent : ℕ) → starts_at date (seat_at seats.now agent) ≡ true → waits_in agents.now servers.old.items agent ≡ None }
-    ensures charges { IsDoneBelow (charge_at date seats.now agents.now) (length agents.now) charges.old.items charges.new.items }
+    ensures runners { IsDoneBelow (runner_at date seats.now agents.now) (length agents.now) runners.old.items runners.new.items }
     ensures served { length servers.new.items ≡ length servers.old.items }
     ensures ready { (processor : ℕ) (old new : Server) → slice_get servers.old.items processor ≡ Some old → slice_get servers.new.items processor ≡ Some new
         → (new ≡ record old { ready = new.ready }) × IsDoneBelow (deadline_on date agents.now seats.now processor) (length agents.now) old.ready new.ready }
@@ -58,7 +57,8 @@ fn start_all(
         let agent = movers[place] as usize;
         let seat = seats[agent];
         if starts_at(&seat, date) {
-            charges[agent].start(budget_in(agents[agent].points.as_slice(), seat.point));
+            let budget = budget_in(agents[agent].points.as_slice(), seat.point);
+            runners[agent].charge.start(budget);
             let home = agents[agent].processor as usize;
             servers[home].ready.add(agent as u32, seat.deadline);
         }
@@ -99,7 +99,7 @@ impl Engine {
             self.shared.seats.as_slice(),
             self.plan.unit.agents.as_slice(),
             date,
-            &mut self.charges,
+            &mut self.runners,
             &mut self.servers,
         );
         ask_anew(&mut self.servers);

@@ -1,29 +1,25 @@
 //! Many cycles in a row that go to one action.
-ghost use Rattle.std.specs.Prelude.{◌≡◌, ◌≢◌, ℕ, ◌+◌, ◌*◌, ◌^◌, ◌<◌, ◌≤◌, List, ◌∷◌, Option, Some, None, length, slice_get, true, if◌then◌else◌, ℤ};
+ghost use Rattle.std.specs.Prelude.{◌≡◌, ◌≢◌, ℕ, ◌+◌, ◌*◌, ◌^◌, ◌<◌, ◌≤◌, List, Option, Some, length, slice_get, true, ℤ};
 ghost use Rattle.std.specs.List.{All};
 ghost use Rattle.psy_base.specs.declared.limits.TheConstants.{RING};
 ghost use Rattle.psy_budget.specs.declared.charge.Stall.{Stall};
 ghost use Rattle.psy_dates.specs.Plans.{IsPlan, opened_of};
 ghost use Rattle.psy_history.specs.Actions.{Action, Opening};
-ghost use Rattle.psy_history.specs.History.{history};
-ghost use Rattle.psy_history.specs.Processors.{processor_at};
-ghost use Rattle.psy_history.specs.Schedule.{Turn, is_pending, turn_of, work};
-ghost use Rattle.psy_history.specs.Summary.{reach};
+ghost use Rattle.psy_history.specs.Schedule.{Turn, work};
 ghost use Rattle.psy_machine.specs.Stepping.{IsOf};
 ghost use Rattle.psy_machine.specs.declared.machine.Step.TheVariants as step;
 ghost use Rattle.psy_tree.specs.declared.unit.StreamDecl.{StreamDecl};
 ghost use Rattle.psy_tree.specs.declared.unit.VarDecl.{VarDecl};
 ghost use Rattle.psy_kernel.specs.declared.engine.advance.Gone.TheVariants as gone;
-ghost use Rattle.psy_kernel.specs.Cycles.{BoxStands, OneStands};
 ghost use Rattle.psy_kernel.specs.Seeing.{is_mine};
 ghost use Rattle.psy_kernel.specs.Standing.{charge_after};
-ghost use Rattle.psy_kernel.specs.Stretches.{AfterCycles, AllPay, AreReaches, HasDoneIn, IsOnWay, MayGoOn, MayLast, given_on, given_to, gone_by};
+ghost use Rattle.psy_kernel.specs.Stretches.{AllPay, Lasts, MayGoOn, MayLast, Passes, Steps};
 
-use super::Figure;
+use super::Runner;
 use super::advance::{Gone, going};
 use super::cycle::{end_of, figured, keep_copies, note, stop};
 use crate::eyes::{Eyes, Scene};
-use psy_budget::{Charge, laws};
+use psy_budget::laws;
 use psy_dates::{Outbox, Phase, Plan, Seat};
 use psy_machine::{Machine, Step};
 use psy_queue::Queue;
@@ -65,29 +61,11 @@ fn burst(
     ensures count { result.count ≤ most }
     ensures whole { result.step ≡ step.Went → result.count ≡ most }
     ensures some { result.step ≢ step.Went → 1 ≤ result.count }
-    ensures on_way { (opening : Opening) (inputs : List (List ℤ)) (stalls : ℕ → List Stall) (r : Action) (had : ℕ)
+    ensures leaves { (opening : Opening) (inputs : List (List ℤ)) (stalls : ℕ → List Stall) (r : Action) (had : ℕ)
         → MayGoOn (opened_of plan.now opening inputs stalls) plan.now.code r had (had + most) start date machine.old eyes.old.scene.now
         eyes.old.taken.now.items eyes.old.outbox.now → AllPay (opened_of plan.now opening inputs stalls) r had (had + most)
-        → result.step ≡ step.Went → IsOnWay (opened_of plan.now opening inputs stalls) plan.now.code r (had + most) machine.new
-        eyes.new.outbox.now.sends eyes.new.taken.now.items }
-    ensures after { (opening : Opening) (inputs : List (List ℤ)) (stalls : ℕ → List Stall) (r : Action) (had : ℕ)
-        → MayGoOn (opened_of plan.now opening inputs stalls) plan.now.code r had (had + most) start date machine.old eyes.old.scene.now
-        eyes.old.taken.now.items eyes.old.outbox.now → AllPay (opened_of plan.now opening inputs stalls) r had (had + most)
-        → result.step ≢ step.Went → AfterCycles (opened_of plan.now opening inputs stalls) plan.now.code r had result.count
-        (gone_by (charge_after (opened_of plan.now opening inputs stalls) r (had + result.count)) result.step)
-        (charge_after (opened_of plan.now opening inputs stalls) r (had + result.count)) machine.new }
-    ensures did { (opening : Opening) (inputs : List (List ℤ)) (stalls : ℕ → List Stall) (r : Action) (had : ℕ)
-        → MayGoOn (opened_of plan.now opening inputs stalls) plan.now.code r had (had + most) start date machine.old eyes.old.scene.now
-        eyes.old.taken.now.items eyes.old.outbox.now → AllPay (opened_of plan.now opening inputs stalls) r had (had + most)
-        → result.step ≢ step.Went → HasDoneIn (opened_of plan.now opening inputs stalls) plan.now.code r had result.count
-        eyes.new.outbox.now.sends eyes.new.taken.now.items
-        (gone_by (charge_after (opened_of plan.now opening inputs stalls) r (had + result.count)) result.step) }
-    ensures reached { (opening : Opening) (inputs : List (List ℤ)) (stalls : ℕ → List Stall) (r : Action) (had : ℕ)
-        → MayGoOn (opened_of plan.now opening inputs stalls) plan.now.code r had (had + most) start date machine.old eyes.old.scene.now
-        eyes.old.taken.now.items eyes.old.outbox.now → AllPay (opened_of plan.now opening inputs stalls) r had (had + most)
-        → (reach : ℕ → ℕ → Option ℕ) → AreReaches (opened_of plan.now opening inputs stalls) plan.now.code r had (had + most) date reach
-        → (variable : ℕ) → slice_get reaches.old.items variable ≡ Some (reach had variable)
-        → slice_get reaches.new.items variable ≡ Some (reach (had + result.count) variable) }
+        → Steps (opened_of plan.now opening inputs stalls) plan.now.code r had most date result.count result.step machine.new
+        eyes.new.outbox.now.sends eyes.new.taken.now.items reaches.old.items reaches.new.items }
     ensures reaching { length reaches.new.items ≡ length reaches.old.items }
     ensures same_taken { eyes.new.taken.ghost_name ≡ eyes.old.taken.ghost_name }
     ensures same_outbox { eyes.new.outbox.ghost_name ≡ eyes.old.outbox.ghost_name }
@@ -131,37 +109,29 @@ fn stretch(
     start: u64,
     date: u64,
     most: u64,
-    charge: &mut Charge,
-    machine: &mut Machine,
+    runner: &mut Runner,
     eyes: &mut Eyes,
     reaches: &mut Vec<Option<u32>>,
 ) -> Passed
     requires plan { IsPlan plan.now }
-    requires of { IsOf plan.now.code machine.old }
+    requires of { IsOf plan.now.code runner.old.machine }
     requires early { (start ≤ date) × (date ≤ 2 ^ 40) }
     requires some { 1 ≤ most }
     requires reaching { length reaches.old.items ≡ length plan.now.unit.variables }
     requires given { (opening : Opening) × (inputs : List (List ℤ)) × (stalls : ℕ → List Stall) × (r : Action) × (had : ℕ)
-        × MayGoOn (opened_of plan.now opening inputs stalls) plan.now.code r had (had + most) start date machine.old eyes.old.scene.now
-        eyes.old.taken.now.items eyes.old.outbox.now × (charge.old ≡ charge_after (opened_of plan.now opening inputs stalls) r had) × (had < work r) }
-    ensures of { IsOf plan.now.code machine.new }
+        × MayGoOn (opened_of plan.now opening inputs stalls) plan.now.code r had (had + most) start date runner.old.machine eyes.old.scene.now
+        eyes.old.taken.now.items eyes.old.outbox.now
+        × (runner.old.charge ≡ charge_after (opened_of plan.now opening inputs stalls) r had) × (had < work r) }
+    ensures of { IsOf plan.now.code runner.new.machine }
+    ensures figure { runner.new.figure ≡ runner.old.figure }
     ensures count { (1 ≤ result.cycles) × (result.cycles ≤ most) }
     ensures whole { result.gone ≡ gone.Going → result.cycles ≡ most }
-    ensures after { (opening : Opening) (inputs : List (List ℤ)) (stalls : ℕ → List Stall) (r : Action) (had : ℕ)
-        → MayGoOn (opened_of plan.now opening inputs stalls) plan.now.code r had (had + most) start date machine.old eyes.old.scene.now
-        eyes.old.taken.now.items eyes.old.outbox.now → charge.old ≡ charge_after (opened_of plan.now opening inputs stalls) r had → had < work r
-        → AfterCycles (opened_of plan.now opening inputs stalls) plan.now.code r had result.cycles result.gone charge.new machine.new }
-    ensures did { (opening : Opening) (inputs : List (List ℤ)) (stalls : ℕ → List Stall) (r : Action) (had : ℕ)
-        → MayGoOn (opened_of plan.now opening inputs stalls) plan.now.code r had (had + most) start date machine.old eyes.old.scene.now
-        eyes.old.taken.now.items eyes.old.outbox.now → charge.old ≡ charge_after (opened_of plan.now opening inputs stalls) r had → had < work r
-        → HasDoneIn (opened_of plan.now opening inputs stalls) plan.now.code r had result.cycles eyes.new.outbox.now.sends eyes.new.taken.now.items
-        result.gone }
-    ensures reached { (opening : Opening) (inputs : List (List ℤ)) (stalls : ℕ → List Stall) (r : Action) (had : ℕ)
-        → MayGoOn (opened_of plan.now opening inputs stalls) plan.now.code r had (had + most) start date machine.old eyes.old.scene.now
-        eyes.old.taken.now.items eyes.old.outbox.now → charge.old ≡ charge_after (opened_of plan.now opening inputs stalls) r had → had < work r
-        → (reach : ℕ → ℕ → Option ℕ) → AreReaches (opened_of plan.now opening inputs stalls) plan.now.code r had (had + most) date reach
-        → (variable : ℕ) → slice_get reaches.old.items variable ≡ Some (reach had variable)
-        → slice_get reaches.new.items variable ≡ Some (reach (had + result.cycles) variable) }
+    ensures passes { (opening : Opening) (inputs : List (List ℤ)) (stalls : ℕ → List Stall) (r : Action) (had : ℕ)
+        → MayGoOn (opened_of plan.now opening inputs stalls) plan.now.code r had (had + most) start date runner.old.machine eyes.old.scene.now
+        eyes.old.taken.now.items eyes.old.outbox.now
+        → runner.old.charge ≡ charge_after (opened_of plan.now opening inputs stalls) r had → had < work r
+        → Passes (opened_of plan.now opening inputs stalls) plan.now.code r had most date result.cycles result.gone runner.new.charge
+        runner.new.machine eyes.new.outbox.now.sends eyes.new.taken.now.items reaches.old.items reaches.new.items }
     ensures reaching { length reaches.new.items ≡ length reaches.old.items }
     ensures same_taken { eyes.new.taken.ghost_name ≡ eyes.old.taken.ghost_name }
     ensures same_outbox { eyes.new.outbox.ghost_name ≡ eyes.old.outbox.ghost_name }
@@ -173,11 +143,11 @@ fn stretch(
 {
     laws::stretches();
     let mut cycles = 0;
-    'parts: while cycles < most && !charge.spent() {
-        cycles += charge.skip(most - cycles);
-        let free = charge.free(most - cycles);
-        let done = burst(plan, start, date, free, machine, eyes, reaches);
-        charge.pay(done.count);
+    'parts: while cycles < most && !runner.charge.spent() {
+        cycles += runner.charge.skip(most - cycles);
+        let free = runner.charge.free(most - cycles);
+        let done = burst(plan, start, date, free, &mut runner.machine, eyes, reaches);
+        runner.charge.pay(done.count);
         cycles += done.count;
         match done.step {
             Step::Went => {}
@@ -197,8 +167,17 @@ fn stretch(
     }
     Passed {
         cycles,
-        gone: going(charge),
+        gone: going(&runner.charge),
     }
+}
+
+/// The cycles that may go to an agent's action in a row: from the one of this number on, up to so many, after a date.
+#[derive(Clone, Copy, Debug)]
+pub(super) struct Span {
+    pub(super) agent: u32,
+    pub(super) cycle: u64,
+    pub(super) most: u64,
+    pub(super) date: u64,
 }
 
 /// What cycles in a row came to: how many they were, and whether the action goes on behind them.
@@ -208,18 +187,13 @@ pub(super) struct Lasted {
     pub(super) goes: bool,
 }
 
-/// Gives an agent's action cycles in a row from the one of this number on, up to so many, after a date: until the action is over, or all are done.
+/// Gives an agent's action these cycles, until it is over or all are done.
 pub(super) fn go_on(
     plan: &Plan,
-    agent: u32,
-    cycle: u64,
-    most: u64,
-    date: u64,
+    span: Span,
     rings: &[Ring],
     queues: &[Queue],
-    charge: &mut Charge,
-    machine: &mut Machine,
-    figure: &mut Figure,
+    runner: &mut Runner,
     seat: &mut Seat,
     ended: &mut Vec<i32>,
     taken: &mut Vec<u32>,
@@ -227,74 +201,35 @@ pub(super) fn go_on(
     reaches: &mut Vec<Option<u32>>,
 ) -> Lasted
     requires plan { IsPlan plan.now }
-    requires known { agent < length plan.now.unit.agents }
+    requires known { span.agent < length plan.now.unit.agents }
     requires valued { length ended.old.items ≡ length plan.now.unit.variables }
-    requires early { date ≤ 2 ^ 40 }
+    requires early { span.date ≤ 2 ^ 40 }
     requires few { All (λ ring. length ring ≤ RING) rings.now }
-    requires some { 1 ≤ most }
-    requires inside { (date < plan.now.until) × (cycle + most ≤ (date + 1) * plan.now.unit.quantum) }
+    requires some { 1 ≤ span.most }
+    requires inside { (span.date < plan.now.until) × (span.cycle + span.most ≤ (span.date + 1) * plan.now.unit.quantum) }
     requires reaching { length reaches.old.items ≡ length plan.now.unit.variables }
     requires given { (opening : Opening) × (inputs : List (List ℤ)) × (stalls : ℕ → List Stall) × (turns : ℕ → List (Option Turn)) × (r : Action)
         × (before : List Action) × (waits : Option ℕ)
-        × MayLast plan.now opening inputs stalls turns date cycle agent most r before charge.old machine.old waits figure.old seat.old ended.old.items
-        rings.now queues.now taken.old.items outbox.old }
-    ensures count { (1 ≤ result.cycles) × (result.cycles ≤ most) }
-    ensures whole { result.goes ≡ true → result.cycles ≡ most }
-    ensures pending { (opening : Opening) (inputs : List (List ℤ)) (stalls : ℕ → List Stall) (turns : ℕ → List (Option Turn)) (r : Action)
-        (before : List Action)
-        (waits : Option ℕ)
-        → MayLast plan.now opening inputs stalls turns date cycle agent most r before charge.old machine.old waits figure.old seat.old ended.old.items
-        rings.now queues.now taken.old.items outbox.old
-        → (k : ℕ) → k < result.cycles → is_pending (given_to (turn_of (Some r)) k (turns agent)) r ≡ true }
-    ensures goes { (opening : Opening) (inputs : List (List ℤ)) (stalls : ℕ → List Stall) (turns : ℕ → List (Option Turn)) (r : Action)
-        (before : List Action)
-        (waits : Option ℕ)
-        → MayLast plan.now opening inputs stalls turns date cycle agent most r before charge.old machine.old waits figure.old seat.old ended.old.items
-        rings.now queues.now taken.old.items outbox.old
-        → is_pending (given_to (turn_of (Some r)) result.cycles (turns agent)) r ≡ result.goes }
-    ensures has { (opening : Opening) (inputs : List (List ℤ)) (stalls : ℕ → List Stall) (turns : ℕ → List (Option Turn)) (r : Action)
-        (before : List Action)
-        (waits : Option ℕ)
-        → MayLast plan.now opening inputs stalls turns date cycle agent most r before charge.old machine.old waits figure.old seat.old ended.old.items
-        rings.now queues.now taken.old.items outbox.old
-        → OneStands (opened_of plan.now opening inputs stalls) plan.now.code (given_to (turn_of (Some r)) result.cycles (turns agent))
-        plan.now.until date agent (r ∷ before) charge.new machine.new (if result.goes then waits else None) figure.new seat.new ended.new.items }
-    ensures boxed { (opening : Opening) (inputs : List (List ℤ)) (stalls : ℕ → List Stall) (turns : ℕ → List (Option Turn)) (r : Action)
-        (before : List Action)
-        (waits : Option ℕ)
-        → MayLast plan.now opening inputs stalls turns date cycle agent most r before charge.old machine.old waits figure.old seat.old ended.old.items
-        rings.now queues.now taken.old.items outbox.old
-        → BoxStands (opened_of plan.now opening inputs stalls) plan.now.code (given_to (turn_of (Some r)) result.cycles (turns agent))
-        date agent (r ∷ before) outbox.new.sends taken.new.items }
-    ensures reached { (opening : Opening) (inputs : List (List ℤ)) (stalls : ℕ → List Stall) (turns : ℕ → List (Option Turn)) (r : Action)
-        (before : List Action)
-        (waits : Option ℕ)
-        → MayLast plan.now opening inputs stalls turns date cycle agent most r before charge.old machine.old waits figure.old seat.old ended.old.items
-        rings.now queues.now taken.old.items outbox.old
-        → (variable : ℕ) → slice_get reaches.old.items variable
-        ≡ Some (reach (opened_of plan.now opening inputs stalls) turns (history (opened_of plan.now opening inputs stalls) (date + 1)) variable)
-        → slice_get reaches.new.items variable ≡ Some (reach (opened_of plan.now opening inputs stalls)
-        (given_on plan.now.unit (processor_at plan.now.unit r.agent) (turn_of (Some r)) result.cycles turns)
-        (history (opened_of plan.now opening inputs stalls) (date + 1)) variable) }
+        × MayLast plan.now opening inputs stalls turns span r before runner.old waits seat.old ended.old.items rings.now queues.now taken.old.items
+        outbox.old }
+    ensures count { (1 ≤ result.cycles) × (result.cycles ≤ span.most) }
+    ensures whole { result.goes ≡ true → result.cycles ≡ span.most }
+    ensures lasts { (opening : Opening) (inputs : List (List ℤ)) (stalls : ℕ → List Stall) (turns : ℕ → List (Option Turn)) (r : Action)
+        (before : List Action) (waits : Option ℕ)
+        → MayLast plan.now opening inputs stalls turns span r before runner.old waits seat.old ended.old.items rings.now queues.now taken.old.items
+        outbox.old
+        → Lasts plan.now opening inputs stalls turns span.date span.agent r before waits result.cycles result.goes runner.new seat.new ended.new.items
+        outbox.new.sends taken.new.items reaches.old.items reaches.new.items }
     ensures reaching { length reaches.new.items ≡ length reaches.old.items }
     ensures size { outbox.new.size ≡ outbox.old.size }
     ensures taking { length taken.new.items ≡ length taken.old.items }
-    ensures untaken { (stream : ℕ) (decl : StreamDecl) → slice_get plan.now.unit.streams stream ≡ Some decl → decl.receiver ≢ agent
+    ensures untaken { (stream : ℕ) (decl : StreamDecl) → slice_get plan.now.unit.streams stream ≡ Some decl → decl.receiver ≢ span.agent
         → slice_get taken.new.items stream ≡ slice_get taken.old.items stream }
-    ensures others { (variable : ℕ) (v : VarDecl) → slice_get plan.now.unit.variables variable ≡ Some v → v.owner ≢ Some agent
+    ensures others { (variable : ℕ) (v : VarDecl) → slice_get plan.now.unit.variables variable ≡ Some v → v.owner ≢ Some span.agent
         → slice_get ended.new.items variable ≡ slice_get ended.old.items variable }
     ensures all { length ended.new.items ≡ length ended.old.items }
 {
-    let scene = Scene::new(
-        rings,
-        plan.unit.variables.as_slice(),
-        plan.unit.clocks.as_slice(),
-        queues,
-        plan.unit.streams.as_slice(),
-        agent,
-        seat.start,
-        date,
-    );
+    let scene = Scene::new(&plan.unit, rings, queues, span.agent, seat.start, span.date);
     let mut eyes = Eyes {
         scene: &scene,
         taken,
@@ -302,7 +237,9 @@ pub(super) fn go_on(
         noted: None,
     };
     let start = seat.start;
-    let done = stretch(plan, start, date, most, charge, machine, &mut eyes, reaches);
+    let done = stretch(
+        plan, start, span.date, span.most, runner, &mut eyes, reaches,
+    );
     match done.gone {
         Gone::Going => {
             return Lasted {
@@ -312,19 +249,19 @@ pub(super) fn go_on(
         }
         Gone::Ended(point) => {
             seat.phase = Phase::Ended;
-            seat.end = end_of(&plan.unit, agent, seat.start, point);
+            seat.end = end_of(&plan.unit, span.agent, seat.start, point);
             seat.reached = point;
-            keep_copies(ended, plan, agent, machine);
+            keep_copies(ended, plan, span.agent, &runner.machine);
         }
         Gone::Trapped(kind) => stop(seat, Some(kind)),
         Gone::Spent => stop(seat, None),
     }
-    *figure = figured(
-        *figure,
+    runner.figure = figured(
+        runner.figure,
         plan.until,
         plan.unit.quantum,
         seat.deadline,
-        cycle + done.cycles,
+        span.cycle + done.cycles,
     );
     Lasted {
         cycles: done.cycles,

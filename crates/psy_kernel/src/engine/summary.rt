@@ -4,27 +4,27 @@ ghost use Rattle.psy_dates.specs.Plans.{IsPlan};
 ghost use Rattle.psy_kernel.specs.Engines.{summary_on};
 ghost use Rattle.psy_kernel.specs.Telling.{figured_lines};
 
-use super::{Engine, Figure};
+use super::{Engine, Runner};
 use psy_dates::Plan;
 use psy_history::laws::{fitting, on_time, one_of_them, openings, reaches, regular};
 use psy_log::{Line, Note};
 
-/// The line of the summary at a place, by the figures of the agents, by how far back rings were reached for, and by how many messages
+/// The line of the summary at a place, by what the agents have, by how far back rings were reached for, and by how many messages
 /// streams held.
 fn tell_figure(
     plan: &Plan,
-    figures: &[Figure],
+    runners: &[Runner],
     reaches: &[Option<u32>],
     helds: &[u32],
     place: usize,
     line: &mut Line,
 ) -> bool
     requires plan { IsPlan plan.now }
-    requires figured { length figures.now ≡ length plan.now.unit.agents }
+    requires run { length runners.now ≡ length plan.now.unit.agents }
     requires reaching { length reaches.now ≡ length plan.now.unit.variables }
     requires holding { length helds.now ≡ length plan.now.unit.streams }
-    ensures some { IsTrue result → slice_get (figured_lines plan.now figures.now reaches.now helds.now) place ≡ Some line.new }
-    ensures none { IsFalse result → (length (figured_lines plan.now figures.now reaches.now helds.now) ≤ place) × (line.new ≡ line.old) }
+    ensures some { IsTrue result → slice_get (figured_lines plan.now runners.now reaches.now helds.now) place ≡ Some line.new }
+    ensures none { IsFalse result → (length (figured_lines plan.now runners.now reaches.now helds.now) ≤ place) × (line.new ≡ line.old) }
 {
     if place == 0 {
         line.set(&Note::End {
@@ -35,10 +35,11 @@ fn tell_figure(
     let agents = plan.unit.agents.as_slice();
     let agent = place - 1;
     if agent < agents.len() {
+        let figure = runners[agent].figure;
         line.set(&Note::AgentEnd {
             agent: agents[agent].name.bytes(),
-            count: figures[agent].count,
-            slack: figures[agent].slack,
+            count: figure.count,
+            slack: figure.slack,
         });
         return true;
     }
@@ -82,7 +83,7 @@ impl Engine {
         reaches();
         tell_figure(
             &self.plan,
-            &self.figures,
+            &self.runners,
             &self.reaches,
             &self.helds,
             place as usize,

@@ -2,22 +2,20 @@
 use Rattle.std.proofs.Common.{◌≡◌, ◌<◌, ℕ, ℤ, List, [], length, replicate, Option, None, refl, ap, sym, subst, ◌∙◌, arith, rules}
 use Rattle.std.specs.List.{AllPairs, range_with_len, slice_get}
 use Rattle.std.proofs.lemmas.List.{length-replicate}
-use Rattle.std.proofs.lemmas.List.FromFn.{length-map-range_with_len}
 use Rattle.psy_history.specs.Compiled.{AreInputs, coded}
 use Rattle.psy_history.specs.Actions.{System}
 use Rattle.psy_history.specs.History.{history}
 use Rattle.psy_dates.specs.Plans.{IsSoundFor, whole_of}
 use Rattle.psy_dates.specs.Standing.{SharedStands, dates_done}
 use Rattle.psy_dates.proofs.lemmas.Fits.{goes_well}
-use Rattle.psy_kernel.specs.declared.engine.Figure.{Figure}
 use Rattle.psy_history.specs.declared.told.Order.{Order}
 use Rattle.psy_history.specs.Scripts.{order_of, stalls_of}
 use Rattle.psy_history.specs.Processors.{processor_at}
 use Rattle.psy_history.specs.Schedule.{Turn}
 use Rattle.psy_history.specs.Scheduled.{turns_of}
 use Rattle.psy_kernel.specs.Standing.{AgentStands, AreInForce, DeedsStand, ServerStands, given_at, most_held_in, waits_on}
-use Rattle.psy_kernel.specs.Starting.{first_charge, first_server}
-use Rattle.psy_kernel.proofs.Booted.{first_cycles, first_one, first_stands, first_waits, made_at, replicated_at, view_booted}
+use Rattle.psy_kernel.specs.Starting.{first_server}
+use Rattle.psy_kernel.proofs.Booted.{first_cycles, first_one, first_stands, first_waits, replicated_at, view_booted}
 use Rattle.psy_kernel.proofs.Engines.{cycles_of}
 use Rattle.psy_kernel.proofs.Parts.{shared_alike}
 use Rattle.psy_kernel.proofs.engine.Engine.boot.Goals as goal
@@ -37,9 +35,7 @@ invariant_of-result c =
     let s : List (List ℤ) → System = coded unit plan.code plan.nexts (stalls_of script) in
     let count = c.len-agents.result in
     let counted : count ≡ length unit.agents = c.len-agents.ensures in
-    let none : Figure = record { count = 0; slack = None } in
-    let machines = c.in_ok-machines.ensures in
-    let charges = c.in_ok-charges.ensures in
+    let runners = c.in_ok-runners.ensures in
     let passed = c.passed_first-passed.result in
     let homes = c.processors_of.result in
     let made : c.in_ok-servers.servers.items ≡ replicate homes (first_server count passed) = c.in_ok-servers.ensures in
@@ -47,7 +43,6 @@ invariant_of-result c =
     let turns : List (List ℤ) → ℕ → List (Option Turn) = λ i agent. turns_of (s i) (order_of unit script) (cycles_of c.in_ok-servers.servers.items (processor_at unit agent)) (processor_at unit agent) in
     let idle : (i : List (List ℤ)) (agent : ℕ) → [] ≡ turns i agent = λ i agent.
     ap (λ n. turns_of (s i) (order_of unit script) n (processor_at unit agent)) (sym (ap (λ servers. cycles_of servers (processor_at unit agent)) made ∙ first_cycles count passed homes (processor_at unit agent))) in
-    let figures = c.in_ok-figures.ensures.items_if_clones_equal (λ y e. e) in
     let never : Option ℕ = None in
     let reached = c.in_ok-reached.ensures.items_if_clones_equal (λ y e. search (rules)) in
     let helds = c.in_ok-helds.ensures.items_if_clones_equal (λ y e. e) in
@@ -64,8 +59,7 @@ invariant_of-result c =
       shared = shared_alike (s shared.inputs.lists) plan.sizes (λ agent. []) (turns shared.inputs.lists) (dates_done shared.date) shared (idle shared.inputs.lists)
           (subst (λ i. SharedStands (s i) plan.sizes (λ agent. []) (dates_done shared.date) shared) lists
           (subst (λ d. SharedStands (s c.args.inputs.lists) plan.sizes (λ agent. []) d shared) dates first));
-      machined = machines.count ∙ c.requires.plan.fits.parts.agents;
-      charges = ap length charges ∙ length-map-range_with_len (first_charge script) 0 count ∙ counted;
+      run = runners.count ∙ c.requires.plan.fits.parts.agents;
       reaching = ap length reached ∙ length-replicate c.len.result never ∙ c.len.ensures;
       reached = λ variable n en.
           replicated_at never c.len.result variable n (ap (λ xs. slice_get xs variable) (sym reached) ∙ en)
@@ -77,15 +71,13 @@ invariant_of-result c =
       doing = λ agent outbox eo.
           subst (λ ts. DeedsStand (s shared.inputs.lists) plan.code ts (history (s shared.inputs.lists) (dates_done shared.date) agent) outbox.sends shared.taken.items) (idle shared.inputs.lists agent)
           (subst (λ d. DeedsStand (s shared.inputs.lists) plan.code [] (history (s shared.inputs.lists) d agent) outbox.sends shared.taken.items) dates (tt {0}));
-      figured = ap length figures ∙ length-replicate count none ∙ counted;
-      agents = λ agent machine charge figure em ec ef.
-          (let new = machines.new agent machine em in
+      agents = λ agent runner there.
+          (let new = runners.new agent runner there in
           let waits = waits_on unit c.in_ok-servers.servers.items agent in
-          subst (λ ts. AgentStands (s shared.inputs.lists) plan.code ts plan.until agent (history (s shared.inputs.lists) (dates_done shared.date) agent) charge machine waits figure) (idle shared.inputs.lists agent)
-          (subst (λ d. AgentStands (s shared.inputs.lists) plan.code [] plan.until agent (history (s shared.inputs.lists) d agent) charge machine waits figure) dates (first_stands (s shared.inputs.lists) plan.code plan.until agent charge machine waits figure
-          (made_at (first_charge script) count agent charge (ap (λ xs. slice_get xs agent) (sym charges) ∙ ec)) new.0 new.1
-          (ap (λ servers. waits_on unit servers agent) made ∙ first_waits count passed unit homes agent)
-          (replicated_at none count agent figure (ap (λ xs. slice_get xs agent) (sym figures) ∙ ef)) refl refl)));
+          subst (λ ts. AgentStands (s shared.inputs.lists) plan.code ts plan.until agent (history (s shared.inputs.lists) (dates_done shared.date) agent) runner waits) (idle shared.inputs.lists agent)
+          (subst (λ d. AgentStands (s shared.inputs.lists) plan.code [] plan.until agent (history (s shared.inputs.lists) d agent) runner waits) dates
+          (first_stands (s shared.inputs.lists) plan.code plan.until agent runner waits new.charge new.new new.of_code
+          (ap (λ servers. waits_on unit servers agent) made ∙ first_waits count passed unit homes agent) new.figure refl refl)));
       all = c.in_ok-declared.ensures ∙ ap (range_with_len 0) counted;
       place = omega arith;
       unshown = λ l. refl;

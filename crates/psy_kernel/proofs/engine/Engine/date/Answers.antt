@@ -19,47 +19,62 @@ use Rattle.psy_kernel.specs.Standing.{AgentStands, DeedsStand, ServerStands, giv
 use Rattle.psy_kernel.specs.declared.engine.Server.{Server}
 use Rattle.psy_dates.specs.Movers.{IsDoneBelow, NamesAll}
 use Rattle.psy_dates.proofs.lemmas.Names.{names_within}
-use Rattle.psy_kernel.specs.Starting.{charge_at, deadline_at, deadline_on, held_at, seat_at, starts_at, waits_in}
-use Rattle.psy_kernel.proofs.DatesDue.{AreRunLaws, agents, before_filled, deeds, free, full, helds, is_due, later, none_due, none_given, same_reach, sound, turns_full, view_after}
+use Rattle.psy_kernel.specs.Starting.{deadline_at, deadline_on, held_at, runner_at, seat_at, starts_at, waits_in}
+use Rattle.psy_kernel.proofs.DatesDue.{AreRunLaws, IsDue, agents, before_filled, deeds, free, full, helds, is_due, later, none_due, none_given, same_reach, sound, turns_full, view_after}
 use Rattle.psy_kernel.proofs.Engines.{opening_in, order_in, run_in}
 use Rattle.psy_kernel.proofs.Homes.{home_is, homes_within}
 use Rattle.psy_kernel.proofs.Parts.{shared_alike}
 use Rattle.psy_kernel.proofs.Asked.{asked}
 use Rattle.psy_kernel.proofs.ServersDated.{AreStarted, asked_count, done_kept, servers_then, waits_started}
 use Rattle.psy_kernel.proofs.StartsNamed.{starts_named}
+use Rattle.psy_kernel.proofs.engine.Engine.date.Goals.{After-dates-date, After-at_date}
 use Rattle.psy_kernel.proofs.engine.Engine.date.Goals as goal
+
+-- The date is due
+due_now : (c : After-dates-date) → IsDue c.self.inside c.dates-date.result
+due_now c =
+    let laws : AreRunLaws = record { well = c.fitting.ensures; opened = c.openings.ensures.run; lawful = c.regular.ensures.lawful; none = c.openings.ensures.none; silent = c.openings.ensures.silent; waits = c.openings.ensures.waits } in
+    is_due c.self.inside c.args.self.now c.dates-date.result c.self.invariant c.self.view_is c.requires.due c.requires.early c.dates-date.ensures.dates c.dates-date.ensures.few laws
+    c.given.ensures.unstarted c.on_time.ensures.due c.one_of_them.ensures.one
+
+-- What is shared behind it
+done_now : (c : After-at_date) (due : IsDue c.self.inside c.dates-date.result) → SharedStands (run_in c.self.inside) c.self.inside.plan.sizes (full c.self.inside c.dates-date.result due) (c.dates-date.result + 1) c.at_date.new.shared
+done_now c due =
+    let k = c.self.inside in
+    let date = c.dates-date.result in
+    c.at_date.ensures.stands (opening_in k) (stalls_of k.script) (order_in k) (sound k date due) (later k date due) (before_filled k date due)
 
 pub at_date-requires-clause-due : goal.at_date-requires-clause-due
 at_date-requires-clause-due c =
     let k = c.self.inside in
     let date = c.dates-date.result in
-    let laws : AreRunLaws = record { well = c.fitting.ensures; opened = c.openings.ensures.run; lawful = c.regular.ensures.lawful; none = c.openings.ensures.none; silent = c.openings.ensures.silent; waits = c.openings.ensures.waits } in
-    none_due k date (is_due k c.args.self.now date c.self.invariant c.self.view_is c.requires.due c.requires.early c.dates-date.ensures.dates c.dates-date.ensures.few laws c.given.ensures.unstarted c.on_time.ensures.due c.one_of_them.ensures.one)
+    let at = goal.at.at_date-requires-clause-due c in
+    none_due k date (due_now at.After-dates-date)
 
 pub at_date-requires-clause-stands : goal.at_date-requires-clause-stands
 at_date-requires-clause-stands c =
     let k = c.self.inside in
     let date = c.dates-date.result in
-    let laws : AreRunLaws = record { well = c.fitting.ensures; opened = c.openings.ensures.run; lawful = c.regular.ensures.lawful; none = c.openings.ensures.none; silent = c.openings.ensures.silent; waits = c.openings.ensures.waits } in
-    let due = is_due k c.args.self.now date c.self.invariant c.self.view_is c.requires.due c.requires.early c.dates-date.ensures.dates c.dates-date.ensures.few laws c.given.ensures.unstarted c.on_time.ensures.due c.one_of_them.ensures.one in
+    let at = goal.at.at_date-requires-clause-stands c in
+    let due = due_now at.After-dates-date in
     (opening_in k, stalls_of k.script, order_in k, sound k date due, later k date due, before_filled k date due)
 
 pub hold_all-requires : goal.hold_all-requires
 hold_all-requires c =
     let k = c.self.inside in
     let date = c.dates-date.result in
-    let laws : AreRunLaws = record { well = c.fitting.ensures; opened = c.openings.ensures.run; lawful = c.regular.ensures.lawful; none = c.openings.ensures.none; silent = c.openings.ensures.silent; waits = c.openings.ensures.waits } in
-    let due = is_due k c.args.self.now date c.self.invariant c.self.view_is c.requires.due c.requires.early c.dates-date.ensures.dates c.dates-date.ensures.few laws c.given.ensures.unstarted c.on_time.ensures.due c.one_of_them.ensures.one in
-    let done = c.at_date.ensures.stands (opening_in k) (stalls_of k.script) (order_in k) (sound k date due) (later k date due) (before_filled k date due) in
+    let at = goal.at.hold_all-requires c in
+    let due = due_now at.After-dates-date in
+    let done = done_now at.After-at_date due in
     c.self.invariant.holding ∙ sym done.queued ∙ sym (ap length c.as_slice.ensures.value)
 
 pub start_all-requires-clause-seated : goal.start_all-requires-clause-seated
 start_all-requires-clause-seated c =
     let k = c.self.inside in
     let date = c.dates-date.result in
-    let laws : AreRunLaws = record { well = c.fitting.ensures; opened = c.openings.ensures.run; lawful = c.regular.ensures.lawful; none = c.openings.ensures.none; silent = c.openings.ensures.silent; waits = c.openings.ensures.waits } in
-    let due = is_due k c.args.self.now date c.self.invariant c.self.view_is c.requires.due c.requires.early c.dates-date.ensures.dates c.dates-date.ensures.few laws c.given.ensures.unstarted c.on_time.ensures.due c.one_of_them.ensures.one in
-    let done = c.at_date.ensures.stands (opening_in k) (stalls_of k.script) (order_in k) (sound k date due) (later k date due) (before_filled k date due) in
+    let at = goal.at.start_all-requires-clause-seated c in
+    let due = due_now at.After-dates-date in
+    let done = done_now at.After-at_date due in
     ap length c.as_slice-2.ensures.value ∙ done.seated ∙ sym (ap length c.as_slice-3.ensures)
 
 pub start_all-requires-clause-movers : goal.start_all-requires-clause-movers
@@ -81,9 +96,9 @@ pub start_all-requires-clause-free : goal.start_all-requires-clause-free
 start_all-requires-clause-free c =
     let k = c.self.inside in
     let date = c.dates-date.result in
-    let laws : AreRunLaws = record { well = c.fitting.ensures; opened = c.openings.ensures.run; lawful = c.regular.ensures.lawful; none = c.openings.ensures.none; silent = c.openings.ensures.silent; waits = c.openings.ensures.waits } in
-    let due = is_due k c.args.self.now date c.self.invariant c.self.view_is c.requires.due c.requires.early c.dates-date.ensures.dates c.dates-date.ensures.few laws c.given.ensures.unstarted c.on_time.ensures.due c.one_of_them.ensures.one in
-    let done = c.at_date.ensures.stands (opening_in k) (stalls_of k.script) (order_in k) (sound k date due) (later k date due) (before_filled k date due) in
+    let at = goal.at.start_all-requires-clause-free c in
+    let due = due_now at.After-dates-date in
+    let done = done_now at.After-at_date due in
     let waits_home : (agent : ℕ) → waits_in k.plan.unit.agents k.servers.items agent ≡ waits_on k.plan.unit k.servers.items agent = λ agent. ap (λ p. pending_deadline (ready_of (slice_get k.servers.items p)) agent) (home_is k.plan.unit agent) in
     subst (λ agents. (agent : ℕ) → starts_at date (seat_at c.as_slice-2.result.now agent) ≡ true → waits_in agents k.servers.items agent ≡ None) (sym c.as_slice-3.ensures)
     (subst (λ seats. (agent : ℕ) → starts_at date (seat_at seats agent) ≡ true → waits_in k.plan.unit.agents k.servers.items agent ≡ None) (sym c.as_slice-2.ensures.value)
@@ -105,11 +120,11 @@ invariant_of-self c =
     let h = c.self.invariant in
     let unit = k.plan.unit in
     let date = c.dates-date.result in
-    let laws : AreRunLaws = record { well = c.fitting.ensures; opened = c.openings.ensures.run; lawful = c.regular.ensures.lawful; none = c.openings.ensures.none; silent = c.openings.ensures.silent; waits = c.openings.ensures.waits } in
-    let due = is_due k c.args.self.now date h c.self.view_is c.requires.due c.requires.early c.dates-date.ensures.dates c.dates-date.ensures.few laws c.given.ensures.unstarted c.on_time.ensures.due c.one_of_them.ensures.one in
+    let at = goal.at.invariant_of-self c in
+    let due = due_now at.After-dates-date in
     let s : List (List ℤ) → System = λ i. opened_of k.plan (opening_in k) i (stalls_of k.script) in
     let shared = c.at_date.new.shared in
-    let done = c.at_date.ensures.stands (opening_in k) (stalls_of k.script) (order_in k) (sound k date due) (later k date due) (before_filled k date due) in
+    let done = done_now at.After-at_date due in
     let lists : k.shared.inputs.lists ≡ shared.inputs.lists = ap (λ i. i.lists) (sym c.at_date.ensures.inputs) in
     let dates : suc date ≡ dates_done shared.date = sym (done.date ∙ add-one date) in
     let begun : AreStarted k date shared.seats.items c.start_all.new.servers.items = λ processor old new was there.
@@ -126,9 +141,9 @@ invariant_of-self c =
     let now : (i : List (List ℤ)) → ℕ → List (Option Turn) = λ i agent. turns_of (s i) (order_in k) (get_or (map (λ (server : Server). server.cycles) after) (processor_at unit agent) 0) (processor_at unit agent) in
     let same : (agent : ℕ) → full k date due agent ≡ now k.shared.inputs.lists agent = λ agent.
     sym (turns_full k date due agent) ∙ ap (λ cs. turns_of (run_in k) (order_in k) (get_or cs (processor_at unit agent) 0) (processor_at unit agent)) cycles in
-    let same_seats : IsDoneBelow (charge_at date shared.seats.items unit.agents) (length unit.agents) k.charges.items c.start_all.new.charges.items =
-    subst (λ seats. IsDoneBelow (charge_at date seats unit.agents) (length unit.agents) k.charges.items c.start_all.new.charges.items) c.as_slice-2.ensures.value
-    (subst (λ agents. IsDoneBelow (charge_at date c.as_slice-2.result.now agents) (length agents) k.charges.items c.start_all.new.charges.items) c.as_slice-3.ensures c.start_all.ensures.charges) in
+    let same_seats : IsDoneBelow (runner_at date shared.seats.items unit.agents) (length unit.agents) k.runners.items c.start_all.new.runners.items =
+    subst (λ seats. IsDoneBelow (runner_at date seats unit.agents) (length unit.agents) k.runners.items c.start_all.new.runners.items) c.as_slice-2.ensures.value
+    (subst (λ agents. IsDoneBelow (runner_at date c.as_slice-2.result.now agents) (length agents) k.runners.items c.start_all.new.runners.items) c.as_slice-3.ensures c.start_all.ensures.runners) in
     let same_helds : IsDoneBelow (held_at shared.queues.items) (length shared.queues.items) k.helds.items c.hold_all.new.helds.items =
     subst (λ queues. IsDoneBelow (held_at queues) (length queues) k.helds.items c.hold_all.new.helds.items) c.as_slice.ensures.value c.hold_all.ensures in
     let waits : (agent : ℕ) → agent < length unit.agents → waits_on unit after agent ≡ deadline_at date shared.seats.items agent (waits_on unit k.servers.items agent) = λ agent less.
@@ -144,8 +159,7 @@ invariant_of-self c =
       servers = λ processor x at. servers_then k date due shared.seats.items servers as_many begun shared.inputs.lists (dates_done shared.date) (map (λ (server : Server). server.cycles) after) dates processor x (ap (λ xs. slice_get xs processor) (sym after_is) ∙ at);
       shared = subst (λ i. SharedStands (s i) k.plan.sizes (now i) (dates_done shared.date) shared) lists
           (subst (λ d. SharedStands (run_in k) k.plan.sizes (now k.shared.inputs.lists) d shared) (sym done.date) (shared_alike (run_in k) k.plan.sizes (full k date due) (now k.shared.inputs.lists) (date + 1) shared same done));
-      machined = h.machined;
-      charges = same_seats.count ∙ h.charges;
+      run = same_seats.count ∙ h.run;
       reaching = h.reaching;
       reached = λ variable n en.
           subst (λ i. n ≡ reach (s i) (now i) (history (s i) (dates_done shared.date)) variable) lists
@@ -161,12 +175,11 @@ invariant_of-self c =
           (subst (λ d. DeedsStand (run_in k) k.plan.code (now k.shared.inputs.lists agent) (history (run_in k) d agent) outbox.sends shared.taken.items) dates
           (subst (λ ts. DeedsStand (run_in k) k.plan.code ts (history (run_in k) (suc date) agent) outbox.sends shared.taken.items) (same agent)
           (deeds k date due shared done c.at_date.ensures.begun c.at_date.ensures.going agent outbox eo)));
-      figured = h.figured;
-      agents = λ agent machine charge figure em ec ef.
-          subst (λ i. AgentStands (s i) k.plan.code (now i agent) k.plan.until agent (history (s i) (dates_done shared.date) agent) charge machine (waits_on unit after agent) figure) lists
-          (subst (λ d. AgentStands (run_in k) k.plan.code (now k.shared.inputs.lists agent) k.plan.until agent (history (run_in k) d agent) charge machine (waits_on unit after agent) figure) dates
-          (subst (λ ts. AgentStands (run_in k) k.plan.code ts k.plan.until agent (history (run_in k) (suc date) agent) charge machine (waits_on unit after agent) figure) (same agent)
-          (agents k date due shared done c.start_all.new.charges.items (waits_on unit after) same_seats waits agent machine charge figure em ec ef)));
+      agents = λ agent runner there.
+          subst (λ i. AgentStands (s i) k.plan.code (now i agent) k.plan.until agent (history (s i) (dates_done shared.date) agent) runner (waits_on unit after agent)) lists
+          (subst (λ d. AgentStands (run_in k) k.plan.code (now k.shared.inputs.lists agent) k.plan.until agent (history (run_in k) d agent) runner (waits_on unit after agent)) dates
+          (subst (λ ts. AgentStands (run_in k) k.plan.code ts k.plan.until agent (history (run_in k) (suc date) agent) runner (waits_on unit after agent)) (same agent)
+          (agents k date due shared done c.start_all.new.runners.items (waits_on unit after) same_seats waits agent runner there)));
       all = h.all;
       place = omega arith;
       unshown = λ l. refl;
@@ -177,10 +190,10 @@ pub returns : goal.returns
 returns c =
     let k = c.self.inside in
     let date = c.dates-date.result in
-    let laws : AreRunLaws = record { well = c.fitting.ensures; opened = c.openings.ensures.run; lawful = c.regular.ensures.lawful; none = c.openings.ensures.none; silent = c.openings.ensures.silent; waits = c.openings.ensures.waits } in
-    let due = is_due k c.args.self.now date c.self.invariant c.self.view_is c.requires.due c.requires.early c.dates-date.ensures.dates c.dates-date.ensures.few laws c.given.ensures.unstarted c.on_time.ensures.due c.one_of_them.ensures.one in
+    let at = goal.at.returns c in
+    let due = due_now at.After-dates-date in
     let shared = c.at_date.new.shared in
-    let done = c.at_date.ensures.stands (opening_in k) (stalls_of k.script) (order_in k) (sound k date due) (later k date due) (before_filled k date due) in
+    let done = done_now at.After-at_date due in
     let begun : AreStarted k date shared.seats.items c.start_all.new.servers.items = λ processor old new was there.
     (let h = c.start_all.ensures.ready processor old new was there in (
       h.0,

@@ -1,35 +1,31 @@
 -- What is left of the proof of `engine::Engine::give`.
-use Rattle.std.proofs.Common.{◌≡◌, ℕ, ◌+◌, ◌-◌, ◌*◌, ◌<◌, ◌≤◌, List, ◌∷◌, Bool, true, false, not, Option, Some, None, length, get_or, if◌then◌else◌, map, slice_get, slice_set, ℤ, Vec, Global, refl, sym, ap, ◌∙◌, subst, arith}
+use Rattle.std.proofs.Common.{◌≡◌, ℕ, ◌+◌, ◌-◌, ◌*◌, ◌<◌, ◌≤◌, List, Bool, true, false, not, Option, Some, None, length, get_or, if◌then◌else◌, map, slice_get, slice_set, ℤ, Vec, Global, refl, sym, ap, ◌∙◌, subst, arith}
 use Rattle.std.proofs.lemmas.List.{length-map, length-set}
 use Rattle.std.proofs.lemmas.Option.{same_Some, slice_get_read, slice_get_within}
 use Rattle.std.specs.List.{All, AllPairs}
 use Rattle.std.specs.Vec.{with_item}
 use Rattle.psy_base.specs.declared.limits.TheConstants.{RING}
-use Rattle.psy_budget.specs.Charges.{Charged}
 use Rattle.psy_dates.specs.declared.seat.Seat.{Seat}
 use Rattle.psy_dates.specs.Outboxes.{Outboxed}
 use Rattle.psy_dates.specs.Standing.{dates_done}
-use Rattle.psy_machine.specs.Stepping.{AgentMachine}
 use Rattle.psy_history.specs.Actions.{Action}
-use Rattle.psy_history.specs.Schedule.{turn_of}
-use Rattle.psy_history.specs.Scheduled.{turns_of}
 use Rattle.psy_history.specs.declared.told.Order.{Order}
 use Rattle.psy_history.specs.Scripts.{stalls_of}
 use Rattle.psy_queue.specs.Order.{Queued}
 use Rattle.psy_ready.specs.Choice.{IsPick, pending_deadline}
-use Rattle.psy_kernel.specs.Cycles.{BoxStands, OneStands}
 use Rattle.psy_kernel.specs.Engines.{EngineState, IsOverOn, done_on, next_date}
-use Rattle.psy_kernel.specs.declared.engine.Figure.{Figure}
+use Rattle.psy_kernel.specs.declared.engine.Runner.{Runner}
 use Rattle.psy_kernel.specs.declared.engine.Engine.TheInside.{Inside}
 use Rattle.psy_kernel.specs.declared.engine.Server.{Server}
 use Rattle.psy_kernel.specs.Standing.{AreInForce, IsChosen, EngineStands, state_of}
-use Rattle.psy_kernel.specs.Stretches.{MayLast, given_to}
+use Rattle.psy_kernel.specs.Stretches.{Lasts, MayLast}
 use Rattle.psy_kernel.proofs.Counted.{counted, counted_ready, dropped, dropped_ready, none_there, others_wait, state_put}
-use Rattle.psy_kernel.proofs.CyclesGiven.{Takes, deadline, deadline_is, given_stands, given_steady, idle_stands, idle_steady, known, may_last, on_date, over_by, row, takes}
+use Rattle.psy_kernel.proofs.CyclesGiven.{Takes, deadline, deadline_is, idle_stands, idle_steady, known, lasted_over, lasted_stands, lasted_steady, may_last, on_date, takes}
 use Rattle.psy_kernel.proofs.Engines.{AreCycleLaws, ArePut, HaveGone, IsDue, ahead_of, cycles_is, cycles_of, high_of, is_due, lists_read, opening_in, order_in, order_read, put_more, put_none, run_in, turns_in}
 use Rattle.psy_kernel.proofs.MoversGiven.{IsTold}
 use Rattle.psy_kernel.proofs.RingViews.{few_places}
 use Rattle.psy_dates.proofs.lemmas.Sets.{get_set_same}
+use Rattle.psy_kernel.proofs.engine.Engine.give.Goals.{In-None, In-Some, After-index-server, After-order_by-order, After-choose-chosen, After-go_on-lasted, After-count_to, After-count_to-in-Some, After-drop_chosen}
 use Rattle.psy_kernel.proofs.engine.Engine.give.Goals as goal
 
 is_off : (b : Bool) → not b ≡ true → b ≡ false
@@ -136,42 +132,180 @@ module _ (k : Inside) (is : EngineStands k) (processor most : ℕ) (server : Ser
   same_size : (outbox new : Outboxed) → outbox ≡ get_or k.shared.outboxes.items agent outbox → new.size ≡ outbox.size → (old : Outboxed) → slice_get k.shared.outboxes.items agent ≡ Some old → new.size ≡ old.size
   same_size outbox new outbox_is e old at = e ∙ ap (λ (o : Outboxed). o.size) (same_Some outbox old (sym (outbox_at outbox outbox_is) ∙ at))
 
-  may_in : (charge : Charged) (machine : AgentMachine) (figure : Figure) (seat : Seat) → charge ≡ get_or k.charges.items agent charge → machine ≡ get_or k.machines.items agent machine → figure ≡ get_or k.figures.items agent figure → seat ≡ get_or k.shared.seats.items agent seat
+  may_in : (runner : Runner) (seat : Seat) → runner ≡ get_or k.runners.items agent runner → seat ≡ get_or k.shared.seats.items agent seat
       → (rings : List (List ℤ)) (queues : List Queued) (outbox : Outboxed) → rings ≡ k.shared.rings.items → queues ≡ k.shared.queues.items → outbox ≡ get_or k.shared.outboxes.items agent outbox
-      → MayLast k.plan (opening_in k) k.shared.inputs.lists (stalls_of k.script) (turns_in k) date server.cycles agent most r before charge machine (deadline k is processor server d agent pick) figure seat k.shared.ended.items rings queues k.shared.taken.items outbox
-  may_in charge machine figure seat charge_is machine_is figure_is seat_is rings queues outbox e f outbox_is =
-      let charge_at = slice_get_read k.charges.items (length k.charges.items) agent charge refl (omega (arith, less, is.charges)) charge_is in
-      let machine_at = slice_get_read k.machines.items (length k.machines.items) agent machine refl (omega (arith, less, is.machined)) machine_is in
-      let figure_at = slice_get_read k.figures.items (length k.figures.items) agent figure refl (omega (arith, less, is.figured)) figure_is in
+      → MayLast k.plan (opening_in k) k.shared.inputs.lists (stalls_of k.script) (turns_in k) (record { agent = agent; cycle = server.cycles; most = most; date = date }) r before runner (deadline k is processor server d agent pick) seat k.shared.ended.items rings queues k.shared.taken.items outbox
+  may_in runner seat runner_is seat_is rings queues outbox e f outbox_is =
+      let runner_at = slice_get_read k.runners.items (length k.runners.items) agent runner refl (omega (arith, less, is.run)) runner_is in
       let seat_at = slice_get_read k.shared.seats.items (length k.shared.seats.items) agent seat refl (omega (arith, less, is.shared.seated)) seat_is in
       let waits = deadline k is processor server d agent pick in
-      subst (λ rs. MayLast k.plan (opening_in k) k.shared.inputs.lists (stalls_of k.script) (turns_in k) date server.cycles agent most r before charge machine waits figure seat k.shared.ended.items rs queues k.shared.taken.items outbox) (sym e)
-      (subst (λ qs. MayLast k.plan (opening_in k) k.shared.inputs.lists (stalls_of k.script) (turns_in k) date server.cycles agent most r before charge machine waits figure seat k.shared.ended.items k.shared.rings.items qs k.shared.taken.items outbox) (sym f)
-      (may_last k is processor server d agent pick r before t most a.high a.ahead date date_is machine charge figure seat machine_at charge_at figure_at seat_at outbox (outbox_at outbox outbox_is)))
+      subst (λ rs. MayLast k.plan (opening_in k) k.shared.inputs.lists (stalls_of k.script) (turns_in k) (record { agent = agent; cycle = server.cycles; most = most; date = date }) r before runner waits seat k.shared.ended.items rs queues k.shared.taken.items outbox) (sym e)
+      (subst (λ qs. MayLast k.plan (opening_in k) k.shared.inputs.lists (stalls_of k.script) (turns_in k) (record { agent = agent; cycle = server.cycles; most = most; date = date }) r before runner waits seat k.shared.ended.items k.shared.rings.items qs k.shared.taken.items outbox) (sym f)
+      (may_last k is processor server d agent pick r before t most a.high a.ahead date date_is runner seat runner_at seat_at outbox (outbox_at outbox outbox_is)))
+
+-- ---- what the answers share
+
+-- What is asked of the processor, and who was chosen for its next cycle
+pub record IsBegun (k : Inside) (p most : ℕ) (server : Server) (chosen : Option ℕ) : Type 0 where
+  pub asks : IsAsked k p most server
+  pub choice : IsChosen server.ready (order_in k server.cycles) chosen
+
+asked_now : (c : After-index-server) → IsAsked c.self.inside c.args.processor c.args.most c.index-server.result.now
+asked_now c =
+    let laws : AreCycleLaws = record { lawful = c.gets.ensures.lawful; over = c.gets.ensures.over; gets = c.gets.ensures.gets; looks = c.gets.ensures.looks; idle = c.gets.ensures.idle; same = c.gets.ensures.same } in
+    asked c.self.inside c.self.invariant c.args.self.now c.self.view_is c.args.processor c.args.most c.index-server.result.now c.gets.ensures.most laws
+    c.requires.known c.requires.early c.requires.some c.requires.inside c.requires.ahead c.index-server.ensures
+
+-- The order that is in force
+read_now : (c : After-order_by-order) → IsAsked c.self.inside c.args.processor c.args.most c.index-server.result.now → c.order_by-order.result.now ≡ order_in c.self.inside c.index-server.result.now.cycles
+read_now c a =
+    order_read c.self.inside c.self.invariant c.args.processor c.index-server.result.now a.at c.order_by-order.result.now c.as_slice.result.now c.as_slice-2.result.now c.order_by-order.ensures c.as_slice.ensures.value c.as_slice-2.ensures
+
+begun_now : (c : After-choose-chosen) → IsAsked c.self.inside c.args.processor c.args.most c.index-server.result.now → c.order_by-order.result.now ≡ order_in c.self.inside c.index-server.result.now.cycles
+    → IsBegun c.self.inside c.args.processor c.args.most c.index-server.result.now c.choose-chosen.result
+begun_now c a read = record { asks = a; choice = subst (λ o. IsChosen c.index-server.result.now.ready o c.choose-chosen.result) read c.choose-chosen.ensures }
+
+-- ---- nobody waits
+
+-- What the processor is once its cycles are counted
+pub record IsIdle (k : Inside) (p most : ℕ) (server y : Server) (servers : List Server) : Type 0 where
+  pub asks : IsAsked k p most server
+  pub nobody : IsChosen server.ready (order_in k server.cycles) None
+  pub put : ArePut k p servers
+  pub gone : HaveGone k p server y most (slice_set servers p y)
+  pub ready : y.ready ≡ server.ready
+
+idle_now : (c : After-count_to) → IsBegun c.self.inside c.args.processor c.args.most c.index-server.result.now c.choose-chosen.result
+    → IsIdle c.self.inside c.args.processor c.args.most c.index-server.result.now c.count_to.new.server (slice_set c.self.inside.servers.items c.args.processor (record c.index_mut.result.now { chosen = c.choose-chosen.result }))
+idle_now c b =
+    let k = c.self.inside in
+    let p = c.args.processor in
+    let server = c.index-server.result.now in
+    let chosen = c.choose-chosen.result in
+    let y = c.count_to.new.server in
+    let put = put_first k p server b.asks.at chosen c.index_mut.result.now c.index_mut.ensures.value in
+    let x_is = chosen_is k p server b.asks.at chosen c.index_mut.result.now c.index_mut.ensures.value c.index_mut-in-None.result.now c.index_mut-in-None.ensures.value in
+    let orders = subst (λ os. AreInForce os y.passed (server.cycles + c.args.most)) c.as_slice-in-None.ensures c.count_to.ensures.in_force in
+    record {
+      asks = b.asks;
+      nobody = subst (IsChosen server.ready (order_in k server.cycles)) c.in-None.is b.choice;
+      put = put;
+      gone = counted k c.self.invariant p server b.asks.at chosen b.choice c.args.most c.index_mut-in-None.result.now y x_is c.count_to.ensures.state orders c.count_to.ensures.no_less _ put;
+      ready = counted_ready k c.self.invariant p server b.asks.at chosen b.choice c.args.most c.index_mut-in-None.result.now y x_is c.count_to.ensures.state orders c.count_to.ensures.no_less;
+    }
+
+-- ---- an agent is chosen
+
+pick_now : (c : In-Some) → IsBegun c.self.inside c.args.processor c.args.most c.index-server.result.now c.choose-chosen.result → IsPick c.index-server.result.now.ready (order_in c.self.inside c.index-server.result.now.cycles) c.in-Some.agent
+pick_now c b = subst (IsChosen c.index-server.result.now.ready (order_in c.self.inside c.index-server.result.now.cycles)) c.in-Some.is b.choice
+
+known_now : (c : In-Some) → IsBegun c.self.inside c.args.processor c.args.most c.index-server.result.now c.choose-chosen.result → c.in-Some.agent < length c.self.inside.plan.unit.agents
+known_now c b = known c.self.inside c.self.invariant c.args.processor c.index-server.result.now b.asks.due c.in-Some.agent (pick_now c b)
+
+-- What the cycles of the chosen agent leave
+pub record HasLasted (k : Inside) (is : EngineStands k) (p most : ℕ) (server : Server) (a : IsAsked k p most server) (agent : ℕ) (pick : IsPick server.ready (order_in k server.cycles) agent) (date n : ℕ) (goes : Bool) (runner : Runner) (seat : Seat) (ended : List ℤ) (outbox : Outboxed) (taken : List ℕ) (reaches : List (Option ℕ)) : Type 0 where
+  pub r : Action
+  pub before : List Action
+  pub t : Takes k is p server a.due agent pick r before
+  pub lasts : Lasts k.plan (opening_in k) k.shared.inputs.lists (stalls_of k.script) (turns_in k) date agent r before (deadline k is p server a.due agent pick) n goes runner seat ended outbox.sends taken k.reaches.items reaches
+
+lasted_now : (c : After-go_on-lasted) (b : IsBegun c.self.inside c.args.processor c.args.most c.index-server.result.now c.choose-chosen.result) (pick : IsPick c.index-server.result.now.ready (order_in c.self.inside c.index-server.result.now.cycles) c.in-Some.agent)
+    → HasLasted c.self.inside c.self.invariant c.args.processor c.args.most c.index-server.result.now b.asks c.in-Some.agent pick c.last_date-date.result c.go_on-lasted.result.cycles c.go_on-lasted.result.goes
+    c.go_on-lasted.new.runner c.go_on-lasted.new.seat c.go_on-lasted.new.ended.items c.go_on-lasted.new.outbox c.go_on-lasted.new.taken.items c.go_on-lasted.new.reaches.items
+lasted_now c b pick =
+    let k = c.self.inside in
+    let is = c.self.invariant in
+    let server = c.index-server.result.now in
+    let t = takes k is c.args.processor server b.asks.due c.in-Some.agent pick in
+    record {
+      r = t.0;
+      before = t.1;
+      t = t.2;
+      lasts = c.go_on-lasted.ensures.lasts (opening_in k) k.shared.inputs.lists (stalls_of k.script) (turns_in k) t.0 t.1 (deadline k is c.args.processor server b.asks.due c.in-Some.agent pick)
+          (may_in k is c.args.processor c.args.most server b.asks c.in-Some.agent pick c.last_date-date.result c.last_date-date.ensures c.index_mut-in-Some.result.now c.index_mut-in-Some-2.result.now c.index_mut-in-Some.ensures.value c.index_mut-in-Some-2.ensures.value
+          c.deref.result.now c.deref-in-Some.result.now c.index_mut-in-Some-3.result.now c.deref.ensures.value c.deref-in-Some.ensures.value c.index_mut-in-Some-3.ensures.value);
+    }
+
+-- The processor once the cycles of its agent are counted
+pub record IsCounted (k : Inside) (p n : ℕ) (server x y : Server) (chosen : Option ℕ) (servers : List Server) : Type 0 where
+  pub put : ArePut k p servers
+  pub x_is : x ≡ record server { chosen = chosen }
+  pub orders : AreInForce k.script.orders y.passed (server.cycles + n)
+  pub gone : HaveGone k p server y n (slice_set servers p y)
+  pub ready : y.ready ≡ server.ready
+
+counted_now : (c : After-count_to-in-Some) → IsBegun c.self.inside c.args.processor c.args.most c.index-server.result.now c.choose-chosen.result
+    → IsCounted c.self.inside c.args.processor c.go_on-lasted.result.cycles c.index-server.result.now c.index_mut-in-Some-4.result.now c.count_to-in-Some.new.server c.choose-chosen.result
+    (slice_set c.self.inside.servers.items c.args.processor (record c.index_mut.result.now { chosen = c.choose-chosen.result }))
+counted_now c b =
+    let k = c.self.inside in
+    let p = c.args.processor in
+    let server = c.index-server.result.now in
+    let chosen = c.choose-chosen.result in
+    let n = c.go_on-lasted.result.cycles in
+    let y = c.count_to-in-Some.new.server in
+    let put = put_first k p server b.asks.at chosen c.index_mut.result.now c.index_mut.ensures.value in
+    let x_is = chosen_is k p server b.asks.at chosen c.index_mut.result.now c.index_mut.ensures.value c.index_mut-in-Some-4.result.now c.index_mut-in-Some-4.ensures.value in
+    let orders = subst (λ os. AreInForce os y.passed (server.cycles + n)) c.as_slice-in-Some.ensures c.count_to-in-Some.ensures.in_force in
+    record {
+      put = put;
+      x_is = x_is;
+      orders = orders;
+      gone = counted k c.self.invariant p server b.asks.at chosen b.choice n c.index_mut-in-Some-4.result.now y x_is c.count_to-in-Some.ensures.state orders c.count_to-in-Some.ensures.no_less _ put;
+      ready = counted_ready k c.self.invariant p server b.asks.at chosen b.choice n c.index_mut-in-Some-4.result.now y x_is c.count_to-in-Some.ensures.state orders c.count_to-in-Some.ensures.no_less;
+    }
+
+-- The processor once its agent waits no longer
+pub record IsDropped (k : Inside) (p n agent : ℕ) (server z : Server) (servers : List Server) : Type 0 where
+  pub put : ArePut k p servers
+  pub gone : HaveGone k p server z n (slice_set servers p z)
+  pub ready : z.ready ≡ slice_set server.ready agent None
+
+dropped_now : (c : After-drop_chosen) → IsBegun c.self.inside c.args.processor c.args.most c.index-server.result.now c.choose-chosen.result
+    → IsCounted c.self.inside c.args.processor c.go_on-lasted.result.cycles c.index-server.result.now c.index_mut-in-Some-4.result.now c.count_to-in-Some.new.server c.choose-chosen.result
+    (slice_set c.self.inside.servers.items c.args.processor (record c.index_mut.result.now { chosen = c.choose-chosen.result }))
+    → IsDropped c.self.inside c.args.processor c.go_on-lasted.result.cycles c.in-Some.agent c.index-server.result.now c.drop_chosen.new.server
+    (slice_set (slice_set c.self.inside.servers.items c.args.processor (record c.index_mut.result.now { chosen = c.choose-chosen.result })) c.args.processor c.count_to-in-Some.new.server)
+dropped_now c b counts =
+    let k = c.self.inside in
+    let p = c.args.processor in
+    let server = c.index-server.result.now in
+    let chosen = c.choose-chosen.result in
+    let agent = c.in-Some.agent in
+    let n = c.go_on-lasted.result.cycles in
+    let x = c.index_mut-in-Some-4.result.now in
+    let y = c.count_to-in-Some.new.server in
+    let z = c.drop_chosen.new.server in
+    let y_read = read_put k p server b.asks.at _ y c.index_mut-then-not-lasted.result.now counts.put c.index_mut-then-not-lasted.ensures.value in
+    let z_is : z ≡ record y { ready = slice_set y.ready agent None; stale = true } = c.drop_chosen.ensures ∙ ap (λ (q : Server). record q { ready = slice_set q.ready agent None; stale = true }) y_read in
+    let put = put_more k p _ y counts.put in
+    record {
+      put = put;
+      gone = dropped k c.self.invariant p server b.asks.at chosen b.choice n x y counts.x_is c.count_to-in-Some.ensures.state counts.orders c.count_to-in-Some.ensures.no_less agent z z_is _ put;
+      ready = dropped_ready k c.self.invariant p server b.asks.at chosen b.choice n x y counts.x_is c.count_to-in-Some.ensures.state counts.orders c.count_to-in-Some.ensures.no_less agent z z_is;
+    }
+
+-- ---- up to the choice
+
+pub order_by-order-requires : goal.order_by-order-requires
+order_by-order-requires c =
+    let a = asked_now (goal.at.order_by-order-requires c).After-index-server in
+    subst (λ os. c.index-server.result.now.passed ≤ length os) (sym c.as_slice-2.ensures) (c.self.invariant.servers c.args.processor c.index-server.result.now a.at).orders.within
 
 pub choose-chosen-requires-clause-lists : goal.choose-chosen-requires-clause-lists
 choose-chosen-requires-clause-lists c =
-    let k : Inside = c.self.inside in
-    let is : EngineStands k = c.self.invariant in
-    let laws : AreCycleLaws = record { lawful = c.gets.ensures.lawful; over = c.gets.ensures.over; gets = c.gets.ensures.gets; looks = c.gets.ensures.looks; idle = c.gets.ensures.idle; same = c.gets.ensures.same } in
-    let p : ℕ = c.args.processor in
-    let most : ℕ = c.args.most in
-    let server : Server = c.index-server.result.now in
-    let a : IsAsked k p most server = asked k is c.args.self.now c.self.view_is p most server c.gets.ensures.most laws c.requires.known c.requires.early c.requires.some c.requires.inside c.requires.ahead c.index-server.ensures in
-    let read : c.order_by-order.result.now ≡ order_in k server.cycles = order_read k is p server a.at c.order_by-order.result.now c.as_slice.result.now c.as_slice-2.result.now c.order_by-order.ensures c.as_slice.ensures.value c.as_slice-2.ensures in
-    lists_read k is p server a.at c.order_by-order.result.now read
+    let at = goal.at.choose-chosen-requires-clause-lists c in
+    let a = asked_now at.After-index-server in
+    lists_read c.self.inside c.self.invariant c.args.processor c.index-server.result.now a.at c.order_by-order.result.now (read_now at.After-order_by-order a)
 
 pub choose-chosen-requires-clause-fresh : goal.choose-chosen-requires-clause-fresh
 choose-chosen-requires-clause-fresh c =
-    let k : Inside = c.self.inside in
-    let is : EngineStands k = c.self.invariant in
-    let laws : AreCycleLaws = record { lawful = c.gets.ensures.lawful; over = c.gets.ensures.over; gets = c.gets.ensures.gets; looks = c.gets.ensures.looks; idle = c.gets.ensures.idle; same = c.gets.ensures.same } in
-    let p : ℕ = c.args.processor in
-    let most : ℕ = c.args.most in
-    let server : Server = c.index-server.result.now in
-    let a : IsAsked k p most server = asked k is c.args.self.now c.self.view_is p most server c.gets.ensures.most laws c.requires.known c.requires.early c.requires.some c.requires.inside c.requires.ahead c.index-server.ensures in
-    let read : c.order_by-order.result.now ≡ order_in k server.cycles = order_read k is p server a.at c.order_by-order.result.now c.as_slice.result.now c.as_slice-2.result.now c.order_by-order.ensures c.as_slice.ensures.value c.as_slice-2.ensures in
-    λ fresh. subst (λ o. IsChosen server.ready o server.chosen) (sym read) ((is.servers p server a.at).choice fresh)
+    let at = goal.at.choose-chosen-requires-clause-fresh c in
+    let server = c.index-server.result.now in
+    let a = asked_now at.After-index-server in
+    λ fresh. subst (λ o. IsChosen server.ready o server.chosen) (sym (read_now at.After-order_by-order a)) ((c.self.invariant.servers c.args.processor server a.at).choice fresh)
+
+-- ---- where nobody waits
 
 pub count_to-requires-clause-rise : goal.count_to-requires-clause-rise
 count_to-requires-clause-rise c =
@@ -179,261 +313,122 @@ count_to-requires-clause-rise c =
 
 pub count_to-requires-clause-in_force : goal.count_to-requires-clause-in_force
 count_to-requires-clause-in_force c =
-    let k : Inside = c.self.inside in
-    let is : EngineStands k = c.self.invariant in
-    let laws : AreCycleLaws = record { lawful = c.gets.ensures.lawful; over = c.gets.ensures.over; gets = c.gets.ensures.gets; looks = c.gets.ensures.looks; idle = c.gets.ensures.idle; same = c.gets.ensures.same } in
-    let p : ℕ = c.args.processor in
-    let most : ℕ = c.args.most in
-    let server : Server = c.index-server.result.now in
-    let a : IsAsked k p most server = asked k is c.args.self.now c.self.view_is p most server c.gets.ensures.most laws c.requires.known c.requires.early c.requires.some c.requires.inside c.requires.ahead c.index-server.ensures in
-    let chosen : Option ℕ = c.choose-chosen.result in
-    let s : Server = c.index_mut.result.now in
-    let x : Server = c.index_mut-in-None.result.now in
-    let x_is : x ≡ record server { chosen = chosen } = chosen_is k p server a.at chosen s c.index_mut.ensures.value x c.index_mut-in-None.ensures.value in
-    let some : 1 ≤ most = c.requires.some in
-    let passed : x.passed ≡ server.passed = ap (λ (q : Server). q.passed) x_is in
-    (server.cycles, omega (arith, some), subst (λ os. AreInForce os x.passed server.cycles) (sym c.as_slice-in-None.ensures) (subst (λ n. AreInForce k.script.orders n server.cycles) (sym passed) (is.servers p server a.at).orders))
+    let a = asked_now (goal.at.count_to-requires-clause-in_force c).After-index-server in
+    let server = c.index-server.result.now in
+    let x = c.index_mut-in-None.result.now in
+    let passed : x.passed ≡ server.passed = ap (λ (q : Server). q.passed) (chosen_is c.self.inside c.args.processor server a.at c.choose-chosen.result c.index_mut.result.now c.index_mut.ensures.value x c.index_mut-in-None.ensures.value) in
+    (server.cycles, omega (arith, c.requires.some), subst (λ os. AreInForce os x.passed server.cycles) (sym c.as_slice-in-None.ensures) (subst (λ n. AreInForce c.self.inside.script.orders n server.cycles) (sym passed) (c.self.invariant.servers c.args.processor server a.at).orders))
 
 pub count_to-requires-clause-ahead : goal.count_to-requires-clause-ahead
 count_to-requires-clause-ahead c =
-    let k : Inside = c.self.inside in
-    let is : EngineStands k = c.self.invariant in
-    let laws : AreCycleLaws = record { lawful = c.gets.ensures.lawful; over = c.gets.ensures.over; gets = c.gets.ensures.gets; looks = c.gets.ensures.looks; idle = c.gets.ensures.idle; same = c.gets.ensures.same } in
-    let p : ℕ = c.args.processor in
-    let most : ℕ = c.args.most in
-    let server : Server = c.index-server.result.now in
-    let a : IsAsked k p most server = asked k is c.args.self.now c.self.view_is p most server c.gets.ensures.most laws c.requires.known c.requires.early c.requires.some c.requires.inside c.requires.ahead c.index-server.ensures in
-    let chosen : Option ℕ = c.choose-chosen.result in
-    let s : Server = c.index_mut.result.now in
-    let x : Server = c.index_mut-in-None.result.now in
-    let x_is : x ≡ record server { chosen = chosen } = chosen_is k p server a.at chosen s c.index_mut.ensures.value x c.index_mut-in-None.ensures.value in
-    let passed : x.passed ≡ server.passed = ap (λ (q : Server). q.passed) x_is in
-    let few : most ≤ most = omega arith in
-    λ o there. (let whole = a.ahead o (ap (slice_get k.script.orders) (sym passed) ∙ ap (λ os. slice_get os x.passed) (sym c.as_slice-in-None.ensures) ∙ there) in omega (arith, whole, few))
+    let a = asked_now (goal.at.count_to-requires-clause-ahead c).After-index-server in
+    let server = c.index-server.result.now in
+    let x = c.index_mut-in-None.result.now in
+    let passed : x.passed ≡ server.passed = ap (λ (q : Server). q.passed) (chosen_is c.self.inside c.args.processor server a.at c.choose-chosen.result c.index_mut.result.now c.index_mut.ensures.value x c.index_mut-in-None.ensures.value) in
+    λ o there. a.ahead o (ap (slice_get c.self.inside.script.orders) (sym passed) ∙ ap (λ os. slice_get os x.passed) (sym c.as_slice-in-None.ensures) ∙ there)
 
 pub overflow_add-cycle : goal.overflow_add-cycle
 overflow_add-cycle c =
-    let k : Inside = c.self.inside in
-    let is : EngineStands k = c.self.invariant in
-    let laws : AreCycleLaws = record { lawful = c.gets.ensures.lawful; over = c.gets.ensures.over; gets = c.gets.ensures.gets; looks = c.gets.ensures.looks; idle = c.gets.ensures.idle; same = c.gets.ensures.same } in
-    let p : ℕ = c.args.processor in
-    let most : ℕ = c.args.most in
-    let server : Server = c.index-server.result.now in
-    let a : IsAsked k p most server = asked k is c.args.self.now c.self.view_is p most server c.gets.ensures.most laws c.requires.known c.requires.early c.requires.some c.requires.inside c.requires.ahead c.index-server.ensures in
+    let a = asked_now (goal.at.overflow_add-cycle c).After-index-server in
     let small = IsDue.small a.due in
     omega (arith, a.high, small)
 
 pub invariant_of-self : goal.invariant_of-self
 invariant_of-self c =
-    let k : Inside = c.self.inside in
-    let is : EngineStands k = c.self.invariant in
-    let laws : AreCycleLaws = record { lawful = c.gets.ensures.lawful; over = c.gets.ensures.over; gets = c.gets.ensures.gets; looks = c.gets.ensures.looks; idle = c.gets.ensures.idle; same = c.gets.ensures.same } in
-    let p : ℕ = c.args.processor in
-    let most : ℕ = c.args.most in
-    let server : Server = c.index-server.result.now in
-    let a : IsAsked k p most server = asked k is c.args.self.now c.self.view_is p most server c.gets.ensures.most laws c.requires.known c.requires.early c.requires.some c.requires.inside c.requires.ahead c.index-server.ensures in
-    let read : c.order_by-order.result.now ≡ order_in k server.cycles = order_read k is p server a.at c.order_by-order.result.now c.as_slice.result.now c.as_slice-2.result.now c.order_by-order.ensures c.as_slice.ensures.value c.as_slice-2.ensures in
-    let chosen : Option ℕ = c.choose-chosen.result in
-    let choice : IsChosen server.ready (order_in k server.cycles) chosen = subst (λ o. IsChosen server.ready o chosen) read c.choose-chosen.ensures in
-    let nobody : IsChosen server.ready (order_in k server.cycles) None = subst (IsChosen server.ready (order_in k server.cycles)) c.in-None.is choice in
-    let s : Server = c.index_mut.result.now in
-    let servers : List Server = first k p server a.at chosen s c.index_mut.ensures.value in
-    let put : ArePut k p servers = put_first k p server a.at chosen s c.index_mut.ensures.value in
-    let x : Server = c.index_mut-in-None.result.now in
-    let x_is : x ≡ record server { chosen = chosen } = chosen_is k p server a.at chosen s c.index_mut.ensures.value x c.index_mut-in-None.ensures.value in
-    let y : Server = c.count_to.new.server in
-    let orders : AreInForce k.script.orders y.passed (server.cycles + most) = subst (λ os. AreInForce os y.passed (server.cycles + most)) c.as_slice-in-None.ensures c.count_to.ensures.in_force in
-    let gone : HaveGone k p server y most (slice_set servers p y) = counted k is p server a.at chosen choice most x y x_is c.count_to.ensures.state orders c.count_to.ensures.no_less servers put in
-    let ready : y.ready ≡ server.ready = counted_ready k is p server a.at chosen choice most x y x_is c.count_to.ensures.state orders c.count_to.ensures.no_less in
-    let moved : Vec Server Global = with_item (with_item k.servers p (record s { chosen = chosen })) p y in
-    idle_stands k is p server a.due nobody most a.high a.ahead y (slice_set servers p y) gone ready moved refl
+    let at = goal.at.invariant_of-self c in
+    let a = asked_now at.After-index-server in
+    let i = idle_now at.After-count_to (begun_now at.After-choose-chosen a (read_now at.After-order_by-order a)) in
+    let p = c.args.processor in
+    let y = c.count_to.new.server in
+    let servers : Vec Server Global = with_item c.self.inside.servers p (record c.index_mut.result.now { chosen = c.choose-chosen.result }) in
+    idle_stands c.self.inside c.self.invariant p c.index-server.result.now i.asks.due i.nobody c.args.most i.asks.high i.asks.ahead y (slice_set servers.items p y) i.gone i.ready (with_item servers p y) refl
 
-pub order_by-order-requires : goal.order_by-order-requires
-order_by-order-requires c =
-    let k : Inside = c.self.inside in
-    let is : EngineStands k = c.self.invariant in
-    let laws : AreCycleLaws = record { lawful = c.gets.ensures.lawful; over = c.gets.ensures.over; gets = c.gets.ensures.gets; looks = c.gets.ensures.looks; idle = c.gets.ensures.idle; same = c.gets.ensures.same } in
-    let p : ℕ = c.args.processor in
-    let most : ℕ = c.args.most in
-    let server : Server = c.index-server.result.now in
-    let a : IsAsked k p most server = asked k is c.args.self.now c.self.view_is p most server c.gets.ensures.most laws c.requires.known c.requires.early c.requires.some c.requires.inside c.requires.ahead c.index-server.ensures in
-    subst (λ os. server.passed ≤ length os) (sym c.as_slice-2.ensures) (is.servers p server a.at).orders.within
+pub returns-in-None : goal.returns-in-None
+returns-in-None c =
+    let at = goal.at.returns-in-None c in
+    let a = asked_now at.After-index-server in
+    let i = idle_now at.After-count_to (begun_now at.After-choose-chosen a (read_now at.After-order_by-order a)) in
+    let k = c.self.inside in
+    let e = c.args.self.now in
+    let p = c.args.processor in
+    let most = c.args.most in
+    let server = c.index-server.result.now in
+    let y = c.count_to.new.server in
+    record {
+      state = state_put k p _ y (put_more k p _ y i.put) i.gone.there e c.self.view_is;
+      count = count_then k p server a.at e c.self.view_is y most most _ i.gone c.requires.some (omega arith);
+      steady = steady_then k p server a.at e c.self.view_is y most most _ i.gone (idle_steady k c.self.invariant p server a.due i.nobody most a.high a.ahead);
+      over = over_then k p server a.at e c.self.view_is y most most _ i.gone (λ wrong. absurd (omega (arith, wrong)));
+    }
+
+-- ---- where an agent is chosen
 
 pub index_mut-requires-in-Some : goal.index_mut-requires-in-Some
 index_mut-requires-in-Some c =
-    let k : Inside = c.self.inside in
-    let is : EngineStands k = c.self.invariant in
-    let laws : AreCycleLaws = record { lawful = c.gets.ensures.lawful; over = c.gets.ensures.over; gets = c.gets.ensures.gets; looks = c.gets.ensures.looks; idle = c.gets.ensures.idle; same = c.gets.ensures.same } in
-    let p : ℕ = c.args.processor in
-    let most : ℕ = c.args.most in
-    let server : Server = c.index-server.result.now in
-    let a : IsAsked k p most server = asked k is c.args.self.now c.self.view_is p most server c.gets.ensures.most laws c.requires.known c.requires.early c.requires.some c.requires.inside c.requires.ahead c.index-server.ensures in
-    let read : c.order_by-order.result.now ≡ order_in k server.cycles = order_read k is p server a.at c.order_by-order.result.now c.as_slice.result.now c.as_slice-2.result.now c.order_by-order.ensures c.as_slice.ensures.value c.as_slice-2.ensures in
-    let chosen : Option ℕ = c.choose-chosen.result in
-    let choice : IsChosen server.ready (order_in k server.cycles) chosen = subst (λ o. IsChosen server.ready o chosen) read c.choose-chosen.ensures in
-    let agent : ℕ = c.in-Some.agent in
-    let pick : IsPick server.ready (order_in k server.cycles) agent = subst (IsChosen server.ready (order_in k server.cycles)) c.in-Some.is choice in
-    let less = known k is p server a.due agent pick in
-    omega (arith, less, is.charges)
+    let at = goal.at.index_mut-requires-in-Some c in
+    let a = asked_now at.After-index-server in
+    let less = known_now at.In-Some (begun_now at.After-choose-chosen a (read_now at.After-order_by-order a)) in
+    omega (arith, less, c.self.invariant.run)
 
 pub index_mut-requires-in-Some-2 : goal.index_mut-requires-in-Some-2
 index_mut-requires-in-Some-2 c =
-    let k : Inside = c.self.inside in
-    let is : EngineStands k = c.self.invariant in
-    let laws : AreCycleLaws = record { lawful = c.gets.ensures.lawful; over = c.gets.ensures.over; gets = c.gets.ensures.gets; looks = c.gets.ensures.looks; idle = c.gets.ensures.idle; same = c.gets.ensures.same } in
-    let p : ℕ = c.args.processor in
-    let most : ℕ = c.args.most in
-    let server : Server = c.index-server.result.now in
-    let a : IsAsked k p most server = asked k is c.args.self.now c.self.view_is p most server c.gets.ensures.most laws c.requires.known c.requires.early c.requires.some c.requires.inside c.requires.ahead c.index-server.ensures in
-    let read : c.order_by-order.result.now ≡ order_in k server.cycles = order_read k is p server a.at c.order_by-order.result.now c.as_slice.result.now c.as_slice-2.result.now c.order_by-order.ensures c.as_slice.ensures.value c.as_slice-2.ensures in
-    let chosen : Option ℕ = c.choose-chosen.result in
-    let choice : IsChosen server.ready (order_in k server.cycles) chosen = subst (λ o. IsChosen server.ready o chosen) read c.choose-chosen.ensures in
-    let agent : ℕ = c.in-Some.agent in
-    let pick : IsPick server.ready (order_in k server.cycles) agent = subst (IsChosen server.ready (order_in k server.cycles)) c.in-Some.is choice in
-    let less = known k is p server a.due agent pick in
-    omega (arith, less, is.machined)
+    let at = goal.at.index_mut-requires-in-Some-2 c in
+    let a = asked_now at.After-index-server in
+    let less = known_now at.In-Some (begun_now at.After-choose-chosen a (read_now at.After-order_by-order a)) in
+    omega (arith, less, c.self.invariant.shared.seated)
 
 pub index_mut-requires-in-Some-3 : goal.index_mut-requires-in-Some-3
 index_mut-requires-in-Some-3 c =
-    let k : Inside = c.self.inside in
-    let is : EngineStands k = c.self.invariant in
-    let laws : AreCycleLaws = record { lawful = c.gets.ensures.lawful; over = c.gets.ensures.over; gets = c.gets.ensures.gets; looks = c.gets.ensures.looks; idle = c.gets.ensures.idle; same = c.gets.ensures.same } in
-    let p : ℕ = c.args.processor in
-    let most : ℕ = c.args.most in
-    let server : Server = c.index-server.result.now in
-    let a : IsAsked k p most server = asked k is c.args.self.now c.self.view_is p most server c.gets.ensures.most laws c.requires.known c.requires.early c.requires.some c.requires.inside c.requires.ahead c.index-server.ensures in
-    let read : c.order_by-order.result.now ≡ order_in k server.cycles = order_read k is p server a.at c.order_by-order.result.now c.as_slice.result.now c.as_slice-2.result.now c.order_by-order.ensures c.as_slice.ensures.value c.as_slice-2.ensures in
-    let chosen : Option ℕ = c.choose-chosen.result in
-    let choice : IsChosen server.ready (order_in k server.cycles) chosen = subst (λ o. IsChosen server.ready o chosen) read c.choose-chosen.ensures in
-    let agent : ℕ = c.in-Some.agent in
-    let pick : IsPick server.ready (order_in k server.cycles) agent = subst (IsChosen server.ready (order_in k server.cycles)) c.in-Some.is choice in
-    let less = known k is p server a.due agent pick in
-    omega (arith, less, is.figured)
-
-pub index_mut-requires-in-Some-4 : goal.index_mut-requires-in-Some-4
-index_mut-requires-in-Some-4 c =
-    let k : Inside = c.self.inside in
-    let is : EngineStands k = c.self.invariant in
-    let laws : AreCycleLaws = record { lawful = c.gets.ensures.lawful; over = c.gets.ensures.over; gets = c.gets.ensures.gets; looks = c.gets.ensures.looks; idle = c.gets.ensures.idle; same = c.gets.ensures.same } in
-    let p : ℕ = c.args.processor in
-    let most : ℕ = c.args.most in
-    let server : Server = c.index-server.result.now in
-    let a : IsAsked k p most server = asked k is c.args.self.now c.self.view_is p most server c.gets.ensures.most laws c.requires.known c.requires.early c.requires.some c.requires.inside c.requires.ahead c.index-server.ensures in
-    let read : c.order_by-order.result.now ≡ order_in k server.cycles = order_read k is p server a.at c.order_by-order.result.now c.as_slice.result.now c.as_slice-2.result.now c.order_by-order.ensures c.as_slice.ensures.value c.as_slice-2.ensures in
-    let chosen : Option ℕ = c.choose-chosen.result in
-    let choice : IsChosen server.ready (order_in k server.cycles) chosen = subst (λ o. IsChosen server.ready o chosen) read c.choose-chosen.ensures in
-    let agent : ℕ = c.in-Some.agent in
-    let pick : IsPick server.ready (order_in k server.cycles) agent = subst (IsChosen server.ready (order_in k server.cycles)) c.in-Some.is choice in
-    let less = known k is p server a.due agent pick in
-    omega (arith, less, is.shared.seated)
-
-pub index_mut-requires-in-Some-5 : goal.index_mut-requires-in-Some-5
-index_mut-requires-in-Some-5 c =
-    let k : Inside = c.self.inside in
-    let is : EngineStands k = c.self.invariant in
-    let laws : AreCycleLaws = record { lawful = c.gets.ensures.lawful; over = c.gets.ensures.over; gets = c.gets.ensures.gets; looks = c.gets.ensures.looks; idle = c.gets.ensures.idle; same = c.gets.ensures.same } in
-    let p : ℕ = c.args.processor in
-    let most : ℕ = c.args.most in
-    let server : Server = c.index-server.result.now in
-    let a : IsAsked k p most server = asked k is c.args.self.now c.self.view_is p most server c.gets.ensures.most laws c.requires.known c.requires.early c.requires.some c.requires.inside c.requires.ahead c.index-server.ensures in
-    let read : c.order_by-order.result.now ≡ order_in k server.cycles = order_read k is p server a.at c.order_by-order.result.now c.as_slice.result.now c.as_slice-2.result.now c.order_by-order.ensures c.as_slice.ensures.value c.as_slice-2.ensures in
-    let chosen : Option ℕ = c.choose-chosen.result in
-    let choice : IsChosen server.ready (order_in k server.cycles) chosen = subst (λ o. IsChosen server.ready o chosen) read c.choose-chosen.ensures in
-    let agent : ℕ = c.in-Some.agent in
-    let pick : IsPick server.ready (order_in k server.cycles) agent = subst (IsChosen server.ready (order_in k server.cycles)) c.in-Some.is choice in
-    let less = known k is p server a.due agent pick in
-    omega (arith, less, is.shared.boxed)
+    let at = goal.at.index_mut-requires-in-Some-3 c in
+    let a = asked_now at.After-index-server in
+    let less = known_now at.In-Some (begun_now at.After-choose-chosen a (read_now at.After-order_by-order a)) in
+    omega (arith, less, c.self.invariant.shared.boxed)
 
 pub index-requires : goal.index-requires
 index-requires c =
-    let k : Inside = c.self.inside in
-    let is : EngineStands k = c.self.invariant in
-    let laws : AreCycleLaws = record { lawful = c.gets.ensures.lawful; over = c.gets.ensures.over; gets = c.gets.ensures.gets; looks = c.gets.ensures.looks; idle = c.gets.ensures.idle; same = c.gets.ensures.same } in
-    let p : ℕ = c.args.processor in
-    let most : ℕ = c.args.most in
-    let server : Server = c.index-server.result.now in
-    let a : IsAsked k p most server = asked k is c.args.self.now c.self.view_is p most server c.gets.ensures.most laws c.requires.known c.requires.early c.requires.some c.requires.inside c.requires.ahead c.index-server.ensures in
-    let read : c.order_by-order.result.now ≡ order_in k server.cycles = order_read k is p server a.at c.order_by-order.result.now c.as_slice.result.now c.as_slice-2.result.now c.order_by-order.ensures c.as_slice.ensures.value c.as_slice-2.ensures in
-    let chosen : Option ℕ = c.choose-chosen.result in
-    let choice : IsChosen server.ready (order_in k server.cycles) chosen = subst (λ o. IsChosen server.ready o chosen) read c.choose-chosen.ensures in
-    let agent : ℕ = c.in-Some.agent in
-    let pick : IsPick server.ready (order_in k server.cycles) agent = subst (IsChosen server.ready (order_in k server.cycles)) c.in-Some.is choice in
-    let less = known k is p server a.due agent pick in
-    omega (arith, less, is.shared.seated, length-set k.shared.seats.items agent c.go_on-lasted.new.seat)
+    let at = goal.at.index-requires c in
+    let a = asked_now at.After-index-server in
+    let less = known_now at.In-Some (begun_now at.After-choose-chosen a (read_now at.After-order_by-order a)) in
+    omega (arith, less, c.self.invariant.shared.seated, length-set c.self.inside.shared.seats.items c.in-Some.agent c.go_on-lasted.new.seat)
 
 pub go_on-lasted-requires-clause-few : goal.go_on-lasted-requires-clause-few
 go_on-lasted-requires-clause-few c =
-    let k : Inside = c.self.inside in
+    let k = c.self.inside in
     subst (All (λ ring. length ring ≤ RING)) (sym c.deref.ensures.value) (few_places k.plan c.self.invariant.plan (run_in k) refl (dates_done k.shared.date) k.shared.rings.items (c.self.invariant.shared.ringed, c.self.invariant.shared.rings))
 
 pub go_on-lasted-requires-clause-known : goal.go_on-lasted-requires-clause-known
 go_on-lasted-requires-clause-known c =
-    let k : Inside = c.self.inside in
-    let is : EngineStands k = c.self.invariant in
-    let laws : AreCycleLaws = record { lawful = c.gets.ensures.lawful; over = c.gets.ensures.over; gets = c.gets.ensures.gets; looks = c.gets.ensures.looks; idle = c.gets.ensures.idle; same = c.gets.ensures.same } in
-    let p : ℕ = c.args.processor in
-    let most : ℕ = c.args.most in
-    let server : Server = c.index-server.result.now in
-    let a : IsAsked k p most server = asked k is c.args.self.now c.self.view_is p most server c.gets.ensures.most laws c.requires.known c.requires.early c.requires.some c.requires.inside c.requires.ahead c.index-server.ensures in
-    let read : c.order_by-order.result.now ≡ order_in k server.cycles = order_read k is p server a.at c.order_by-order.result.now c.as_slice.result.now c.as_slice-2.result.now c.order_by-order.ensures c.as_slice.ensures.value c.as_slice-2.ensures in
-    let chosen : Option ℕ = c.choose-chosen.result in
-    let choice : IsChosen server.ready (order_in k server.cycles) chosen = subst (λ o. IsChosen server.ready o chosen) read c.choose-chosen.ensures in
-    let agent : ℕ = c.in-Some.agent in
-    let pick : IsPick server.ready (order_in k server.cycles) agent = subst (IsChosen server.ready (order_in k server.cycles)) c.in-Some.is choice in
-    let date : ℕ = c.last_date-date.result in
-    let date_is : date ≡ dates_done k.shared.date - 1 = c.last_date-date.ensures in
-    let t = takes k is p server a.due agent pick in
-    known k is p server a.due agent pick
+    let at = goal.at.go_on-lasted-requires-clause-known c in
+    let a = asked_now at.After-index-server in
+    let less = known_now at.In-Some (begun_now at.After-choose-chosen a (read_now at.After-order_by-order a)) in
+    less
 
 pub go_on-lasted-requires-clause-inside : goal.go_on-lasted-requires-clause-inside
 go_on-lasted-requires-clause-inside c =
-    let k : Inside = c.self.inside in
-    let is : EngineStands k = c.self.invariant in
-    let laws : AreCycleLaws = record { lawful = c.gets.ensures.lawful; over = c.gets.ensures.over; gets = c.gets.ensures.gets; looks = c.gets.ensures.looks; idle = c.gets.ensures.idle; same = c.gets.ensures.same } in
-    let p : ℕ = c.args.processor in
-    let most : ℕ = c.args.most in
-    let server : Server = c.index-server.result.now in
-    let a : IsAsked k p most server = asked k is c.args.self.now c.self.view_is p most server c.gets.ensures.most laws c.requires.known c.requires.early c.requires.some c.requires.inside c.requires.ahead c.index-server.ensures in
-    let read : c.order_by-order.result.now ≡ order_in k server.cycles = order_read k is p server a.at c.order_by-order.result.now c.as_slice.result.now c.as_slice-2.result.now c.order_by-order.ensures c.as_slice.ensures.value c.as_slice-2.ensures in
-    let chosen : Option ℕ = c.choose-chosen.result in
-    let choice : IsChosen server.ready (order_in k server.cycles) chosen = subst (λ o. IsChosen server.ready o chosen) read c.choose-chosen.ensures in
-    let agent : ℕ = c.in-Some.agent in
-    let pick : IsPick server.ready (order_in k server.cycles) agent = subst (IsChosen server.ready (order_in k server.cycles)) c.in-Some.is choice in
-    let date : ℕ = c.last_date-date.result in
-    let date_is : date ≡ dates_done k.shared.date - 1 = c.last_date-date.ensures in
-    let t = takes k is p server a.due agent pick in
-    let here : date ≡ a.due.date = on_date k is p server a.due agent pick t.0 t.1 t.2 date date_is in
-    subst (λ n. (n < k.plan.until) × (server.cycles + most ≤ (n + 1) * k.plan.unit.quantum)) (sym here) (a.due.inside.1, a.high)
+    let at = goal.at.go_on-lasted-requires-clause-inside c in
+    let a = asked_now at.After-index-server in
+    let pick = pick_now at.In-Some (begun_now at.After-choose-chosen a (read_now at.After-order_by-order a)) in
+    let k = c.self.inside in
+    let server = c.index-server.result.now in
+    let t = takes k c.self.invariant c.args.processor server a.due c.in-Some.agent pick in
+    let here = on_date k c.self.invariant c.args.processor server a.due c.in-Some.agent pick t.0 t.1 t.2 c.last_date-date.result c.last_date-date.ensures in
+    subst (λ n. (n < k.plan.until) × (server.cycles + c.args.most ≤ (n + 1) * k.plan.unit.quantum)) (sym here) (a.due.inside.1, a.high)
 
 pub go_on-lasted-requires-clause-given : goal.go_on-lasted-requires-clause-given
 go_on-lasted-requires-clause-given c =
-    let k : Inside = c.self.inside in
-    let is : EngineStands k = c.self.invariant in
-    let laws : AreCycleLaws = record { lawful = c.gets.ensures.lawful; over = c.gets.ensures.over; gets = c.gets.ensures.gets; looks = c.gets.ensures.looks; idle = c.gets.ensures.idle; same = c.gets.ensures.same } in
-    let p : ℕ = c.args.processor in
-    let most : ℕ = c.args.most in
-    let server : Server = c.index-server.result.now in
-    let a : IsAsked k p most server = asked k is c.args.self.now c.self.view_is p most server c.gets.ensures.most laws c.requires.known c.requires.early c.requires.some c.requires.inside c.requires.ahead c.index-server.ensures in
-    let read : c.order_by-order.result.now ≡ order_in k server.cycles = order_read k is p server a.at c.order_by-order.result.now c.as_slice.result.now c.as_slice-2.result.now c.order_by-order.ensures c.as_slice.ensures.value c.as_slice-2.ensures in
-    let chosen : Option ℕ = c.choose-chosen.result in
-    let choice : IsChosen server.ready (order_in k server.cycles) chosen = subst (λ o. IsChosen server.ready o chosen) read c.choose-chosen.ensures in
-    let agent : ℕ = c.in-Some.agent in
-    let pick : IsPick server.ready (order_in k server.cycles) agent = subst (IsChosen server.ready (order_in k server.cycles)) c.in-Some.is choice in
-    let date : ℕ = c.last_date-date.result in
-    let date_is : date ≡ dates_done k.shared.date - 1 = c.last_date-date.ensures in
-    let t = takes k is p server a.due agent pick in
-    let may = may_in k is p most server a agent pick date date_is c.index_mut-in-Some.result.now c.index_mut-in-Some-2.result.now c.index_mut-in-Some-3.result.now c.index_mut-in-Some-4.result.now c.index_mut-in-Some.ensures.value c.index_mut-in-Some-2.ensures.value c.index_mut-in-Some-3.ensures.value c.index_mut-in-Some-4.ensures.value c.deref.result.now c.deref-in-Some.result.now c.index_mut-in-Some-5.result.now c.deref.ensures.value c.deref-in-Some.ensures.value c.index_mut-in-Some-5.ensures.value in
-    (opening_in k, k.shared.inputs.lists, stalls_of k.script, turns_in k, t.0, t.1, deadline k is p server a.due agent pick, may)
+    let at = goal.at.go_on-lasted-requires-clause-given c in
+    let a = asked_now at.After-index-server in
+    let pick = pick_now at.In-Some (begun_now at.After-choose-chosen a (read_now at.After-order_by-order a)) in
+    let k = c.self.inside in
+    let server = c.index-server.result.now in
+    let t = takes k c.self.invariant c.args.processor server a.due c.in-Some.agent pick in
+    let may = may_in k c.self.invariant c.args.processor c.args.most server a c.in-Some.agent pick c.last_date-date.result c.last_date-date.ensures c.index_mut-in-Some.result.now c.index_mut-in-Some-2.result.now c.index_mut-in-Some.ensures.value c.index_mut-in-Some-2.ensures.value
+    c.deref.result.now c.deref-in-Some.result.now c.index_mut-in-Some-3.result.now c.deref.ensures.value c.deref-in-Some.ensures.value c.index_mut-in-Some-3.ensures.value in
+    (opening_in k, k.shared.inputs.lists, stalls_of k.script, turns_in k, t.0, t.1, deadline k c.self.invariant c.args.processor server a.due c.in-Some.agent pick, may)
 
 pub overflow_add-cycle-in-Some : goal.overflow_add-cycle-in-Some
 overflow_add-cycle-in-Some c =
-    let k : Inside = c.self.inside in
-    let is : EngineStands k = c.self.invariant in
-    let laws : AreCycleLaws = record { lawful = c.gets.ensures.lawful; over = c.gets.ensures.over; gets = c.gets.ensures.gets; looks = c.gets.ensures.looks; idle = c.gets.ensures.idle; same = c.gets.ensures.same } in
-    let p : ℕ = c.args.processor in
-    let most : ℕ = c.args.most in
-    let server : Server = c.index-server.result.now in
-    let a : IsAsked k p most server = asked k is c.args.self.now c.self.view_is p most server c.gets.ensures.most laws c.requires.known c.requires.early c.requires.some c.requires.inside c.requires.ahead c.index-server.ensures in
+    let a = asked_now (goal.at.overflow_add-cycle-in-Some c).After-index-server in
     let count = c.go_on-lasted.ensures.count in
     let small = IsDue.small a.due in
     omega (arith, a.high, count.1, small)
@@ -444,609 +439,145 @@ count_to-requires-in-Some-clause-rise c =
 
 pub count_to-requires-in-Some-clause-in_force : goal.count_to-requires-in-Some-clause-in_force
 count_to-requires-in-Some-clause-in_force c =
-    let k : Inside = c.self.inside in
-    let is : EngineStands k = c.self.invariant in
-    let laws : AreCycleLaws = record { lawful = c.gets.ensures.lawful; over = c.gets.ensures.over; gets = c.gets.ensures.gets; looks = c.gets.ensures.looks; idle = c.gets.ensures.idle; same = c.gets.ensures.same } in
-    let p : ℕ = c.args.processor in
-    let most : ℕ = c.args.most in
-    let server : Server = c.index-server.result.now in
-    let a : IsAsked k p most server = asked k is c.args.self.now c.self.view_is p most server c.gets.ensures.most laws c.requires.known c.requires.early c.requires.some c.requires.inside c.requires.ahead c.index-server.ensures in
-    let chosen : Option ℕ = c.choose-chosen.result in
-    let s : Server = c.index_mut.result.now in
-    let x : Server = c.index_mut-in-Some-6.result.now in
-    let x_is : x ≡ record server { chosen = chosen } = chosen_is k p server a.at chosen s c.index_mut.ensures.value x c.index_mut-in-Some-6.ensures.value in
-    let some : 1 ≤ c.go_on-lasted.result.cycles = c.go_on-lasted.ensures.count.0 in
-    let passed : x.passed ≡ server.passed = ap (λ (q : Server). q.passed) x_is in
-    (server.cycles, omega (arith, some), subst (λ os. AreInForce os x.passed server.cycles) (sym c.as_slice-in-Some.ensures) (subst (λ n. AreInForce k.script.orders n server.cycles) (sym passed) (is.servers p server a.at).orders))
+    let a = asked_now (goal.at.count_to-requires-in-Some-clause-in_force c).After-index-server in
+    let server = c.index-server.result.now in
+    let x = c.index_mut-in-Some-4.result.now in
+    let passed : x.passed ≡ server.passed = ap (λ (q : Server). q.passed) (chosen_is c.self.inside c.args.processor server a.at c.choose-chosen.result c.index_mut.result.now c.index_mut.ensures.value x c.index_mut-in-Some-4.ensures.value) in
+    (server.cycles, omega (arith, c.go_on-lasted.ensures.count.0), subst (λ os. AreInForce os x.passed server.cycles) (sym c.as_slice-in-Some.ensures) (subst (λ n. AreInForce c.self.inside.script.orders n server.cycles) (sym passed) (c.self.invariant.servers c.args.processor server a.at).orders))
 
 pub count_to-requires-in-Some-clause-ahead : goal.count_to-requires-in-Some-clause-ahead
 count_to-requires-in-Some-clause-ahead c =
-    let k : Inside = c.self.inside in
-    let is : EngineStands k = c.self.invariant in
-    let laws : AreCycleLaws = record { lawful = c.gets.ensures.lawful; over = c.gets.ensures.over; gets = c.gets.ensures.gets; looks = c.gets.ensures.looks; idle = c.gets.ensures.idle; same = c.gets.ensures.same } in
-    let p : ℕ = c.args.processor in
-    let most : ℕ = c.args.most in
-    let server : Server = c.index-server.result.now in
-    let a : IsAsked k p most server = asked k is c.args.self.now c.self.view_is p most server c.gets.ensures.most laws c.requires.known c.requires.early c.requires.some c.requires.inside c.requires.ahead c.index-server.ensures in
-    let chosen : Option ℕ = c.choose-chosen.result in
-    let s : Server = c.index_mut.result.now in
-    let x : Server = c.index_mut-in-Some-6.result.now in
-    let x_is : x ≡ record server { chosen = chosen } = chosen_is k p server a.at chosen s c.index_mut.ensures.value x c.index_mut-in-Some-6.ensures.value in
-    let passed : x.passed ≡ server.passed = ap (λ (q : Server). q.passed) x_is in
-    let few : c.go_on-lasted.result.cycles ≤ most = c.go_on-lasted.ensures.count.1 in
-    λ o there. (let whole = a.ahead o (ap (slice_get k.script.orders) (sym passed) ∙ ap (λ os. slice_get os x.passed) (sym c.as_slice-in-Some.ensures) ∙ there) in omega (arith, whole, few))
+    let a = asked_now (goal.at.count_to-requires-in-Some-clause-ahead c).After-index-server in
+    let server = c.index-server.result.now in
+    let x = c.index_mut-in-Some-4.result.now in
+    let passed : x.passed ≡ server.passed = ap (λ (q : Server). q.passed) (chosen_is c.self.inside c.args.processor server a.at c.choose-chosen.result c.index_mut.result.now c.index_mut.ensures.value x c.index_mut-in-Some-4.ensures.value) in
+    let few : c.go_on-lasted.result.cycles ≤ c.args.most = c.go_on-lasted.ensures.count.1 in
+    λ o there. (let whole = a.ahead o (ap (slice_get c.self.inside.script.orders) (sym passed) ∙ ap (λ os. slice_get os x.passed) (sym c.as_slice-in-Some.ensures) ∙ there) in omega (arith, whole, few))
 
 pub drop_chosen-requires : goal.drop_chosen-requires
 drop_chosen-requires c =
-    let k : Inside = c.self.inside in
-    let is : EngineStands k = c.self.invariant in
-    let laws : AreCycleLaws = record { lawful = c.gets.ensures.lawful; over = c.gets.ensures.over; gets = c.gets.ensures.gets; looks = c.gets.ensures.looks; idle = c.gets.ensures.idle; same = c.gets.ensures.same } in
-    let p : ℕ = c.args.processor in
-    let most : ℕ = c.args.most in
-    let server : Server = c.index-server.result.now in
-    let a : IsAsked k p most server = asked k is c.args.self.now c.self.view_is p most server c.gets.ensures.most laws c.requires.known c.requires.early c.requires.some c.requires.inside c.requires.ahead c.index-server.ensures in
-    let read : c.order_by-order.result.now ≡ order_in k server.cycles = order_read k is p server a.at c.order_by-order.result.now c.as_slice.result.now c.as_slice-2.result.now c.order_by-order.ensures c.as_slice.ensures.value c.as_slice-2.ensures in
-    let chosen : Option ℕ = c.choose-chosen.result in
-    let choice : IsChosen server.ready (order_in k server.cycles) chosen = subst (λ o. IsChosen server.ready o chosen) read c.choose-chosen.ensures in
-    let agent : ℕ = c.in-Some.agent in
-    let pick : IsPick server.ready (order_in k server.cycles) agent = subst (IsChosen server.ready (order_in k server.cycles)) c.in-Some.is choice in
-    let date : ℕ = c.last_date-date.result in
-    let date_is : date ≡ dates_done k.shared.date - 1 = c.last_date-date.ensures in
-    let t = takes k is p server a.due agent pick in
-    let s : Server = c.index_mut.result.now in
-    let servers : List Server = first k p server a.at chosen s c.index_mut.ensures.value in
-    let put : ArePut k p servers = put_first k p server a.at chosen s c.index_mut.ensures.value in
-    let x : Server = c.index_mut-in-Some-6.result.now in
-    let x_is : x ≡ record server { chosen = chosen } = chosen_is k p server a.at chosen s c.index_mut.ensures.value x c.index_mut-in-Some-6.ensures.value in
-    let n : ℕ = c.go_on-lasted.result.cycles in
-    let y : Server = c.count_to-in-Some.new.server in
-    let orders : AreInForce k.script.orders y.passed (server.cycles + n) = subst (λ os. AreInForce os y.passed (server.cycles + n)) c.as_slice-in-Some.ensures c.count_to-in-Some.ensures.in_force in
-    let y_read : c.index_mut-then-not-lasted.result.now ≡ y = read_put k p server a.at servers y c.index_mut-then-not-lasted.result.now put c.index_mut-then-not-lasted.ensures.value in
-    let ready : c.index_mut-then-not-lasted.result.now.ready ≡ server.ready = ap (λ (q : Server). q.ready) y_read ∙ counted_ready k is p server a.at chosen choice n x y x_is c.count_to-in-Some.ensures.state orders c.count_to-in-Some.ensures.no_less in
-    (pick.deadline, ap (λ xs. pending_deadline xs agent) ready ∙ pick.is_pending)
+    let at = goal.at.drop_chosen-requires c in
+    let a = asked_now at.After-index-server in
+    let b = begun_now at.After-choose-chosen a (read_now at.After-order_by-order a) in
+    let pick = pick_now at.In-Some b in
+    let counts = counted_now at.After-count_to-in-Some b in
+    let y_read = read_put c.self.inside c.args.processor c.index-server.result.now a.at _ c.count_to-in-Some.new.server c.index_mut-then-not-lasted.result.now counts.put c.index_mut-then-not-lasted.ensures.value in
+    (pick.deadline, ap (λ xs. pending_deadline xs c.in-Some.agent) (ap (λ (q : Server). q.ready) y_read ∙ counts.ready) ∙ pick.is_pending)
 
 pub invariant_of-self-then-not-lasted : goal.invariant_of-self-then-not-lasted
 invariant_of-self-then-not-lasted c =
-    let k : Inside = c.self.inside in
-    let is : EngineStands k = c.self.invariant in
-    let laws : AreCycleLaws = record { lawful = c.gets.ensures.lawful; over = c.gets.ensures.over; gets = c.gets.ensures.gets; looks = c.gets.ensures.looks; idle = c.gets.ensures.idle; same = c.gets.ensures.same } in
-    let p : ℕ = c.args.processor in
-    let most : ℕ = c.args.most in
-    let server : Server = c.index-server.result.now in
-    let a : IsAsked k p most server = asked k is c.args.self.now c.self.view_is p most server c.gets.ensures.most laws c.requires.known c.requires.early c.requires.some c.requires.inside c.requires.ahead c.index-server.ensures in
-    let read : c.order_by-order.result.now ≡ order_in k server.cycles = order_read k is p server a.at c.order_by-order.result.now c.as_slice.result.now c.as_slice-2.result.now c.order_by-order.ensures c.as_slice.ensures.value c.as_slice-2.ensures in
-    let chosen : Option ℕ = c.choose-chosen.result in
-    let choice : IsChosen server.ready (order_in k server.cycles) chosen = subst (λ o. IsChosen server.ready o chosen) read c.choose-chosen.ensures in
-    let agent : ℕ = c.in-Some.agent in
-    let pick : IsPick server.ready (order_in k server.cycles) agent = subst (IsChosen server.ready (order_in k server.cycles)) c.in-Some.is choice in
-    let date : ℕ = c.last_date-date.result in
-    let date_is : date ≡ dates_done k.shared.date - 1 = c.last_date-date.ensures in
-    let t = takes k is p server a.due agent pick in
-    let may = may_in k is p most server a agent pick date date_is c.index_mut-in-Some.result.now c.index_mut-in-Some-2.result.now c.index_mut-in-Some-3.result.now c.index_mut-in-Some-4.result.now c.index_mut-in-Some.ensures.value c.index_mut-in-Some-2.ensures.value c.index_mut-in-Some-3.ensures.value c.index_mut-in-Some-4.ensures.value c.deref.result.now c.deref-in-Some.result.now c.index_mut-in-Some-5.result.now c.deref.ensures.value c.deref-in-Some.ensures.value c.index_mut-in-Some-5.ensures.value in
+    let at = goal.at.invariant_of-self-then-not-lasted c in
+    let asks = asked_now at.After-index-server in
+    let b = begun_now at.After-choose-chosen asks (read_now at.After-order_by-order asks) in
+    let a = b.asks in
+    let pick = pick_now at.In-Some b in
+    let l = lasted_now at.After-go_on-lasted b pick in
+    let counts = counted_now at.After-count_to-in-Some b in
+    let drops = dropped_now at.After-drop_chosen b counts in
+    let k = c.self.inside in
+    let is = c.self.invariant in
+    let p = c.args.processor in
+    let server = c.index-server.result.now in
+    let agent = c.in-Some.agent in
+    let date = c.last_date-date.result in
+    let date_is = c.last_date-date.ensures in
     let lasted = c.go_on-lasted.ensures in
-    let n : ℕ = c.go_on-lasted.result.cycles in
-    let r : Action = t.0 in
-    let before : List Action = t.1 in
-    let waits : Option ℕ = deadline k is p server a.due agent pick in
-    let pends = lasted.pending (opening_in k) k.shared.inputs.lists (stalls_of k.script) (turns_in k) r before waits may in
-    let goes = lasted.goes (opening_in k) k.shared.inputs.lists (stalls_of k.script) (turns_in k) r before waits may in
-    let turns : (j : ℕ) → j ≤ n → turns_of (run_in k) (order_in k) (server.cycles + j) p ≡ given_to (turn_of (Some r)) j (turns_of (run_in k) (order_in k) server.cycles p) =
-    λ j less. row k is p server a.due agent pick r before t.2 most a.high a.ahead j (omega (arith, less, lasted.count.1)) (λ i below. pends i (omega (arith, below, less))) in
-    let s : Server = c.index_mut.result.now in
-    let servers : List Server = first k p server a.at chosen s c.index_mut.ensures.value in
-    let put : ArePut k p servers = put_first k p server a.at chosen s c.index_mut.ensures.value in
-    let x : Server = c.index_mut-in-Some-6.result.now in
-    let x_is : x ≡ record server { chosen = chosen } = chosen_is k p server a.at chosen s c.index_mut.ensures.value x c.index_mut-in-Some-6.ensures.value in
-    let y : Server = c.count_to-in-Some.new.server in
-    let orders : AreInForce k.script.orders y.passed (server.cycles + n) = subst (λ os. AreInForce os y.passed (server.cycles + n)) c.as_slice-in-Some.ensures c.count_to-in-Some.ensures.in_force in
-    let put_y : ArePut k p (slice_set servers p y) = put_more k p servers y put in
-    let z : Server = c.drop_chosen.new.server in
-    let y_read : c.index_mut-then-not-lasted.result.now ≡ y = read_put k p server a.at servers y c.index_mut-then-not-lasted.result.now put c.index_mut-then-not-lasted.ensures.value in
-    let z_is : z ≡ record y { ready = slice_set y.ready agent None; stale = true } = c.drop_chosen.ensures ∙ ap (λ (q : Server). record q { ready = slice_set q.ready agent None; stale = true }) y_read in
-    let gone : HaveGone k p server z n (slice_set (slice_set servers p y) p z) = dropped k is p server a.at chosen choice n x y x_is c.count_to-in-Some.ensures.state orders c.count_to-in-Some.ensures.no_less agent z z_is (slice_set servers p y) put_y in
-    let has_then = lasted.has (opening_in k) k.shared.inputs.lists (stalls_of k.script) (turns_in k) r before waits may in
-    let machine : AgentMachine = c.go_on-lasted.new.machine in
-    let charge : Charged = c.go_on-lasted.new.charge in
-    let figure : Figure = c.go_on-lasted.new.figure in
-    let seat : Seat = c.go_on-lasted.new.seat in
-    let seats : Vec Seat Global = with_item k.shared.seats agent seat in
-    let machines : Vec AgentMachine Global = with_item k.machines agent machine in
-    let charges : Vec Charged Global = with_item k.charges agent charge in
-    let figures : Vec Figure Global = with_item k.figures agent figure in
-    let copies : Vec ℤ Global = c.go_on-lasted.new.ended in
-    let outbox : Outboxed = c.go_on-lasted.new.outbox in
-    let outboxes : Vec Outboxed Global = with_item k.shared.outboxes agent outbox in
-    let counts : Vec ℕ Global = c.go_on-lasted.new.taken in
-    let reaches : Vec (Option ℕ) Global = c.go_on-lasted.new.reaches in
-    let here : date ≡ a.due.date = on_date k is p server a.due agent pick r before t.2 date date_is in
-    let box : BoxStands (run_in k) k.plan.code (given_to (turn_of (Some r)) n (turns_in k agent)) a.due.date agent (r ∷ before) outbox.sends counts.items =
-    subst (λ m. BoxStands (run_in k) k.plan.code (given_to (turn_of (Some r)) n (turns_in k agent)) m agent (r ∷ before) outbox.sends counts.items) here
-    (lasted.boxed (opening_in k) k.shared.inputs.lists (stalls_of k.script) (turns_in k) r before waits may) in
-    let size = same_size k is p most server a agent pick date date_is c.index_mut-in-Some-5.result.now outbox c.index_mut-in-Some-5.ensures.value lasted.size in
-    let reached = lasted.reached (opening_in k) k.shared.inputs.lists (stalls_of k.script) (turns_in k) r before waits may in
-    let told : IsTold seat k.shared.movers c.tell.new.self =
-    subst (λ (x : Seat). IsTold x k.shared.movers c.tell.new.self) (read_seat k is p most server a agent pick date date_is seat c.index.result.now c.index.ensures)
+    let after = c.go_on-lasted.new in
+    let waits = deadline k is p server a.due agent pick in
+    let told : IsTold after.seat k.shared.movers c.tell.new.self =
+    subst (λ (x : Seat). IsTold x k.shared.movers c.tell.new.self) (read_seat k is p c.args.most server a agent pick date date_is after.seat c.index.result.now c.index.ensures)
     (record { moved = c.tell.ensures.moved; earlier = c.tell.ensures.earlier; before = c.tell.ensures.before; kept = c.tell.ensures.kept; stopped = c.tell.ensures.stopped }) in
-    let within : server.cycles + n ≤ (a.due.date + 1) * k.plan.unit.quantum = omega (arith, a.high, lasted.count.1) in
-    let one : OneStands (run_in k) k.plan.code (given_to (turn_of (Some r)) n (turns_in k agent)) k.plan.until a.due.date agent (r ∷ before) charge machine None figure seat copies.items =
-    subst (λ m. OneStands (run_in k) k.plan.code (given_to (turn_of (Some r)) n (turns_in k agent)) k.plan.until m agent (r ∷ before) charge machine None figure seat copies.items) here
-    (subst (λ on. OneStands (run_in k) k.plan.code (given_to (turn_of (Some r)) n (turns_in k agent)) k.plan.until date agent (r ∷ before) charge machine (if on then waits else None) figure seat copies.items) (is_off c.go_on-lasted.result.goes c.if-not-lasted.true) has_then) in
-    let ready : z.ready ≡ slice_set server.ready agent None = dropped_ready k is p server a.at chosen choice n x y x_is c.count_to-in-Some.ensures.state orders c.count_to-in-Some.ensures.no_less agent z z_is in
-    let moved : Vec Server Global = with_item (with_item (with_item k.servers p (record s { chosen = chosen })) p y) p z in
-    given_stands k is p server a.due agent pick r before t.2 n (turns n (omega arith)) z (slice_set (slice_set servers p y) p z) gone within machine charge None figure seat copies.items one lasted.all lasted.others outbox counts.items box size lasted.taking lasted.untaken
-    (ap (λ xs. pending_deadline xs agent) ready ∙ none_there server.ready agent)
-    (λ other differs. ap (λ xs. pending_deadline xs other) ready ∙ others_wait server.ready agent other differs)
-    moved c.tell.new.self told seats copies outboxes counts machines charges figures reaches date refl refl refl refl refl refl refl refl date_is lasted.reaching reached
+    let waits_then : (if c.go_on-lasted.result.goes then waits else None) ≡ None = ap (λ on. if on then waits else None) (is_off c.go_on-lasted.result.goes c.if-not-lasted.true) in
+    let servers : Vec Server Global = with_item (with_item k.servers p (record c.index_mut.result.now { chosen = c.choose-chosen.result })) p c.count_to-in-Some.new.server in
+    lasted_stands k is p server a.due agent pick l.r l.before l.t c.args.most a.high a.ahead date date_is c.go_on-lasted.result.cycles lasted.count after.outbox l.lasts c.drop_chosen.new.server _ drops.gone
+    (ap (λ xs. pending_deadline xs agent) drops.ready ∙ none_there server.ready agent ∙ sym waits_then)
+    (λ other differs. ap (λ xs. pending_deadline xs other) drops.ready ∙ others_wait server.ready agent other differs)
+    lasted.all lasted.others (same_size k is p c.args.most server a agent pick date date_is c.index_mut-in-Some-3.result.now after.outbox c.index_mut-in-Some-3.ensures.value lasted.size) lasted.taking lasted.untaken lasted.reaching
+    c.tell.new.self told (with_item servers p c.drop_chosen.new.server) (with_item k.shared.seats agent after.seat) after.ended (with_item k.shared.outboxes agent after.outbox) after.taken (with_item k.runners agent after.runner) after.reaches
+    refl refl refl refl refl refl refl
 
 pub invariant_of-self-else-not-lasted : goal.invariant_of-self-else-not-lasted
 invariant_of-self-else-not-lasted c =
-    let k : Inside = c.self.inside in
-    let is : EngineStands k = c.self.invariant in
-    let laws : AreCycleLaws = record { lawful = c.gets.ensures.lawful; over = c.gets.ensures.over; gets = c.gets.ensures.gets; looks = c.gets.ensures.looks; idle = c.gets.ensures.idle; same = c.gets.ensures.same } in
-    let p : ℕ = c.args.processor in
-    let most : ℕ = c.args.most in
-    let server : Server = c.index-server.result.now in
-    let a : IsAsked k p most server = asked k is c.args.self.now c.self.view_is p most server c.gets.ensures.most laws c.requires.known c.requires.early c.requires.some c.requires.inside c.requires.ahead c.index-server.ensures in
-    let read : c.order_by-order.result.now ≡ order_in k server.cycles = order_read k is p server a.at c.order_by-order.result.now c.as_slice.result.now c.as_slice-2.result.now c.order_by-order.ensures c.as_slice.ensures.value c.as_slice-2.ensures in
-    let chosen : Option ℕ = c.choose-chosen.result in
-    let choice : IsChosen server.ready (order_in k server.cycles) chosen = subst (λ o. IsChosen server.ready o chosen) read c.choose-chosen.ensures in
-    let agent : ℕ = c.in-Some.agent in
-    let pick : IsPick server.ready (order_in k server.cycles) agent = subst (IsChosen server.ready (order_in k server.cycles)) c.in-Some.is choice in
-    let date : ℕ = c.last_date-date.result in
-    let date_is : date ≡ dates_done k.shared.date - 1 = c.last_date-date.ensures in
-    let t = takes k is p server a.due agent pick in
-    let may = may_in k is p most server a agent pick date date_is c.index_mut-in-Some.result.now c.index_mut-in-Some-2.result.now c.index_mut-in-Some-3.result.now c.index_mut-in-Some-4.result.now c.index_mut-in-Some.ensures.value c.index_mut-in-Some-2.ensures.value c.index_mut-in-Some-3.ensures.value c.index_mut-in-Some-4.ensures.value c.deref.result.now c.deref-in-Some.result.now c.index_mut-in-Some-5.result.now c.deref.ensures.value c.deref-in-Some.ensures.value c.index_mut-in-Some-5.ensures.value in
+    let at = goal.at.invariant_of-self-else-not-lasted c in
+    let asks = asked_now at.After-index-server in
+    let b = begun_now at.After-choose-chosen asks (read_now at.After-order_by-order asks) in
+    let a = b.asks in
+    let pick = pick_now at.In-Some b in
+    let l = lasted_now at.After-go_on-lasted b pick in
+    let counts = counted_now at.After-count_to-in-Some b in
+    let k = c.self.inside in
+    let is = c.self.invariant in
+    let p = c.args.processor in
+    let server = c.index-server.result.now in
+    let agent = c.in-Some.agent in
+    let date = c.last_date-date.result in
+    let date_is = c.last_date-date.ensures in
     let lasted = c.go_on-lasted.ensures in
-    let n : ℕ = c.go_on-lasted.result.cycles in
-    let r : Action = t.0 in
-    let before : List Action = t.1 in
-    let waits : Option ℕ = deadline k is p server a.due agent pick in
-    let pends = lasted.pending (opening_in k) k.shared.inputs.lists (stalls_of k.script) (turns_in k) r before waits may in
-    let goes = lasted.goes (opening_in k) k.shared.inputs.lists (stalls_of k.script) (turns_in k) r before waits may in
-    let turns : (j : ℕ) → j ≤ n → turns_of (run_in k) (order_in k) (server.cycles + j) p ≡ given_to (turn_of (Some r)) j (turns_of (run_in k) (order_in k) server.cycles p) =
-    λ j less. row k is p server a.due agent pick r before t.2 most a.high a.ahead j (omega (arith, less, lasted.count.1)) (λ i below. pends i (omega (arith, below, less))) in
-    let s : Server = c.index_mut.result.now in
-    let servers : List Server = first k p server a.at chosen s c.index_mut.ensures.value in
-    let put : ArePut k p servers = put_first k p server a.at chosen s c.index_mut.ensures.value in
-    let x : Server = c.index_mut-in-Some-6.result.now in
-    let x_is : x ≡ record server { chosen = chosen } = chosen_is k p server a.at chosen s c.index_mut.ensures.value x c.index_mut-in-Some-6.ensures.value in
-    let y : Server = c.count_to-in-Some.new.server in
-    let orders : AreInForce k.script.orders y.passed (server.cycles + n) = subst (λ os. AreInForce os y.passed (server.cycles + n)) c.as_slice-in-Some.ensures c.count_to-in-Some.ensures.in_force in
-    let gone : HaveGone k p server y n (slice_set servers p y) = counted k is p server a.at chosen choice n x y x_is c.count_to-in-Some.ensures.state orders c.count_to-in-Some.ensures.no_less servers put in
-    let has_then = lasted.has (opening_in k) k.shared.inputs.lists (stalls_of k.script) (turns_in k) r before waits may in
-    let machine : AgentMachine = c.go_on-lasted.new.machine in
-    let charge : Charged = c.go_on-lasted.new.charge in
-    let figure : Figure = c.go_on-lasted.new.figure in
-    let seat : Seat = c.go_on-lasted.new.seat in
-    let seats : Vec Seat Global = with_item k.shared.seats agent seat in
-    let machines : Vec AgentMachine Global = with_item k.machines agent machine in
-    let charges : Vec Charged Global = with_item k.charges agent charge in
-    let figures : Vec Figure Global = with_item k.figures agent figure in
-    let copies : Vec ℤ Global = c.go_on-lasted.new.ended in
-    let outbox : Outboxed = c.go_on-lasted.new.outbox in
-    let outboxes : Vec Outboxed Global = with_item k.shared.outboxes agent outbox in
-    let counts : Vec ℕ Global = c.go_on-lasted.new.taken in
-    let reaches : Vec (Option ℕ) Global = c.go_on-lasted.new.reaches in
-    let here : date ≡ a.due.date = on_date k is p server a.due agent pick r before t.2 date date_is in
-    let box : BoxStands (run_in k) k.plan.code (given_to (turn_of (Some r)) n (turns_in k agent)) a.due.date agent (r ∷ before) outbox.sends counts.items =
-    subst (λ m. BoxStands (run_in k) k.plan.code (given_to (turn_of (Some r)) n (turns_in k agent)) m agent (r ∷ before) outbox.sends counts.items) here
-    (lasted.boxed (opening_in k) k.shared.inputs.lists (stalls_of k.script) (turns_in k) r before waits may) in
-    let size = same_size k is p most server a agent pick date date_is c.index_mut-in-Some-5.result.now outbox c.index_mut-in-Some-5.ensures.value lasted.size in
-    let reached = lasted.reached (opening_in k) k.shared.inputs.lists (stalls_of k.script) (turns_in k) r before waits may in
-    let told : IsTold seat k.shared.movers c.tell.new.self =
-    subst (λ (x : Seat). IsTold x k.shared.movers c.tell.new.self) (read_seat k is p most server a agent pick date date_is seat c.index.result.now c.index.ensures)
+    let after = c.go_on-lasted.new in
+    let waits = deadline k is p server a.due agent pick in
+    let told : IsTold after.seat k.shared.movers c.tell.new.self =
+    subst (λ (x : Seat). IsTold x k.shared.movers c.tell.new.self) (read_seat k is p c.args.most server a agent pick date date_is after.seat c.index.result.now c.index.ensures)
     (record { moved = c.tell.ensures.moved; earlier = c.tell.ensures.earlier; before = c.tell.ensures.before; kept = c.tell.ensures.kept; stopped = c.tell.ensures.stopped }) in
-    let within : server.cycles + n ≤ (a.due.date + 1) * k.plan.unit.quantum = omega (arith, a.high, lasted.count.1) in
-    let one : OneStands (run_in k) k.plan.code (given_to (turn_of (Some r)) n (turns_in k agent)) k.plan.until a.due.date agent (r ∷ before) charge machine waits figure seat copies.items =
-    subst (λ m. OneStands (run_in k) k.plan.code (given_to (turn_of (Some r)) n (turns_in k agent)) k.plan.until m agent (r ∷ before) charge machine waits figure seat copies.items) here
-    (subst (λ on. OneStands (run_in k) k.plan.code (given_to (turn_of (Some r)) n (turns_in k agent)) k.plan.until date agent (r ∷ before) charge machine (if on then waits else None) figure seat copies.items) (is_on c.go_on-lasted.result.goes c.if-not-lasted.false) has_then) in
-    let ready : y.ready ≡ server.ready = counted_ready k is p server a.at chosen choice n x y x_is c.count_to-in-Some.ensures.state orders c.count_to-in-Some.ensures.no_less in
-    let moved : Vec Server Global = with_item (with_item k.servers p (record s { chosen = chosen })) p y in
-    given_stands k is p server a.due agent pick r before t.2 n (turns n (omega arith)) y (slice_set servers p y) gone within machine charge waits figure seat copies.items one lasted.all lasted.others outbox counts.items box size lasted.taking lasted.untaken
-    (ap (λ xs. pending_deadline xs agent) ready ∙ sym (deadline_is k is p server a.due agent pick))
-    (λ other differs. ap (λ xs. pending_deadline xs other) ready)
-    moved c.tell.new.self told seats copies outboxes counts machines charges figures reaches date refl refl refl refl refl refl refl refl date_is lasted.reaching reached
+    let waits_then : (if c.go_on-lasted.result.goes then waits else None) ≡ waits = ap (λ on. if on then waits else None) (is_on c.go_on-lasted.result.goes c.if-not-lasted.false) in
+    let servers : Vec Server Global = with_item (with_item k.servers p (record c.index_mut.result.now { chosen = c.choose-chosen.result })) p c.count_to-in-Some.new.server in
+    lasted_stands k is p server a.due agent pick l.r l.before l.t c.args.most a.high a.ahead date date_is c.go_on-lasted.result.cycles lasted.count after.outbox l.lasts c.count_to-in-Some.new.server _ counts.gone
+    (ap (λ xs. pending_deadline xs agent) counts.ready ∙ sym (deadline_is k is p server a.due agent pick) ∙ sym waits_then)
+    (λ other differs. ap (λ xs. pending_deadline xs other) counts.ready)
+    lasted.all lasted.others (same_size k is p c.args.most server a agent pick date date_is c.index_mut-in-Some-3.result.now after.outbox c.index_mut-in-Some-3.ensures.value lasted.size) lasted.taking lasted.untaken lasted.reaching
+    c.tell.new.self told servers (with_item k.shared.seats agent after.seat) after.ended (with_item k.shared.outboxes agent after.outbox) after.taken (with_item k.runners agent after.runner) after.reaches
+    refl refl refl refl refl refl refl
 
-pub returns-in-None-clause-state : goal.returns-in-None-clause-state
-returns-in-None-clause-state c =
-    let k : Inside = c.self.inside in
-    let is : EngineStands k = c.self.invariant in
-    let laws : AreCycleLaws = record { lawful = c.gets.ensures.lawful; over = c.gets.ensures.over; gets = c.gets.ensures.gets; looks = c.gets.ensures.looks; idle = c.gets.ensures.idle; same = c.gets.ensures.same } in
-    let p : ℕ = c.args.processor in
-    let most : ℕ = c.args.most in
-    let server : Server = c.index-server.result.now in
-    let a : IsAsked k p most server = asked k is c.args.self.now c.self.view_is p most server c.gets.ensures.most laws c.requires.known c.requires.early c.requires.some c.requires.inside c.requires.ahead c.index-server.ensures in
-    let read : c.order_by-order.result.now ≡ order_in k server.cycles = order_read k is p server a.at c.order_by-order.result.now c.as_slice.result.now c.as_slice-2.result.now c.order_by-order.ensures c.as_slice.ensures.value c.as_slice-2.ensures in
-    let chosen : Option ℕ = c.choose-chosen.result in
-    let choice : IsChosen server.ready (order_in k server.cycles) chosen = subst (λ o. IsChosen server.ready o chosen) read c.choose-chosen.ensures in
-    let nobody : IsChosen server.ready (order_in k server.cycles) None = subst (IsChosen server.ready (order_in k server.cycles)) c.in-None.is choice in
-    let s : Server = c.index_mut.result.now in
-    let servers : List Server = first k p server a.at chosen s c.index_mut.ensures.value in
-    let put : ArePut k p servers = put_first k p server a.at chosen s c.index_mut.ensures.value in
-    let x : Server = c.index_mut-in-None.result.now in
-    let x_is : x ≡ record server { chosen = chosen } = chosen_is k p server a.at chosen s c.index_mut.ensures.value x c.index_mut-in-None.ensures.value in
-    let y : Server = c.count_to.new.server in
-    let orders : AreInForce k.script.orders y.passed (server.cycles + most) = subst (λ os. AreInForce os y.passed (server.cycles + most)) c.as_slice-in-None.ensures c.count_to.ensures.in_force in
-    let gone : HaveGone k p server y most (slice_set servers p y) = counted k is p server a.at chosen choice most x y x_is c.count_to.ensures.state orders c.count_to.ensures.no_less servers put in
-    state_put k p (slice_set servers p y) y (put_more k p servers y put) gone.there c.args.self.now c.self.view_is
-
-pub returns-in-None-clause-count : goal.returns-in-None-clause-count
-returns-in-None-clause-count c =
-    let k : Inside = c.self.inside in
-    let is : EngineStands k = c.self.invariant in
-    let laws : AreCycleLaws = record { lawful = c.gets.ensures.lawful; over = c.gets.ensures.over; gets = c.gets.ensures.gets; looks = c.gets.ensures.looks; idle = c.gets.ensures.idle; same = c.gets.ensures.same } in
-    let p : ℕ = c.args.processor in
-    let most : ℕ = c.args.most in
-    let server : Server = c.index-server.result.now in
-    let a : IsAsked k p most server = asked k is c.args.self.now c.self.view_is p most server c.gets.ensures.most laws c.requires.known c.requires.early c.requires.some c.requires.inside c.requires.ahead c.index-server.ensures in
-    let read : c.order_by-order.result.now ≡ order_in k server.cycles = order_read k is p server a.at c.order_by-order.result.now c.as_slice.result.now c.as_slice-2.result.now c.order_by-order.ensures c.as_slice.ensures.value c.as_slice-2.ensures in
-    let chosen : Option ℕ = c.choose-chosen.result in
-    let choice : IsChosen server.ready (order_in k server.cycles) chosen = subst (λ o. IsChosen server.ready o chosen) read c.choose-chosen.ensures in
-    let nobody : IsChosen server.ready (order_in k server.cycles) None = subst (IsChosen server.ready (order_in k server.cycles)) c.in-None.is choice in
-    let s : Server = c.index_mut.result.now in
-    let servers : List Server = first k p server a.at chosen s c.index_mut.ensures.value in
-    let put : ArePut k p servers = put_first k p server a.at chosen s c.index_mut.ensures.value in
-    let x : Server = c.index_mut-in-None.result.now in
-    let x_is : x ≡ record server { chosen = chosen } = chosen_is k p server a.at chosen s c.index_mut.ensures.value x c.index_mut-in-None.ensures.value in
-    let y : Server = c.count_to.new.server in
-    let orders : AreInForce k.script.orders y.passed (server.cycles + most) = subst (λ os. AreInForce os y.passed (server.cycles + most)) c.as_slice-in-None.ensures c.count_to.ensures.in_force in
-    let gone : HaveGone k p server y most (slice_set servers p y) = counted k is p server a.at chosen choice most x y x_is c.count_to.ensures.state orders c.count_to.ensures.no_less servers put in
-    count_then k p server a.at c.args.self.now c.self.view_is y most most (slice_set servers p y) gone c.requires.some (omega arith)
-
-pub returns-in-None-clause-steady : goal.returns-in-None-clause-steady
-returns-in-None-clause-steady c =
-    let k : Inside = c.self.inside in
-    let is : EngineStands k = c.self.invariant in
-    let laws : AreCycleLaws = record { lawful = c.gets.ensures.lawful; over = c.gets.ensures.over; gets = c.gets.ensures.gets; looks = c.gets.ensures.looks; idle = c.gets.ensures.idle; same = c.gets.ensures.same } in
-    let p : ℕ = c.args.processor in
-    let most : ℕ = c.args.most in
-    let server : Server = c.index-server.result.now in
-    let a : IsAsked k p most server = asked k is c.args.self.now c.self.view_is p most server c.gets.ensures.most laws c.requires.known c.requires.early c.requires.some c.requires.inside c.requires.ahead c.index-server.ensures in
-    let read : c.order_by-order.result.now ≡ order_in k server.cycles = order_read k is p server a.at c.order_by-order.result.now c.as_slice.result.now c.as_slice-2.result.now c.order_by-order.ensures c.as_slice.ensures.value c.as_slice-2.ensures in
-    let chosen : Option ℕ = c.choose-chosen.result in
-    let choice : IsChosen server.ready (order_in k server.cycles) chosen = subst (λ o. IsChosen server.ready o chosen) read c.choose-chosen.ensures in
-    let nobody : IsChosen server.ready (order_in k server.cycles) None = subst (IsChosen server.ready (order_in k server.cycles)) c.in-None.is choice in
-    let s : Server = c.index_mut.result.now in
-    let servers : List Server = first k p server a.at chosen s c.index_mut.ensures.value in
-    let put : ArePut k p servers = put_first k p server a.at chosen s c.index_mut.ensures.value in
-    let x : Server = c.index_mut-in-None.result.now in
-    let x_is : x ≡ record server { chosen = chosen } = chosen_is k p server a.at chosen s c.index_mut.ensures.value x c.index_mut-in-None.ensures.value in
-    let y : Server = c.count_to.new.server in
-    let orders : AreInForce k.script.orders y.passed (server.cycles + most) = subst (λ os. AreInForce os y.passed (server.cycles + most)) c.as_slice-in-None.ensures c.count_to.ensures.in_force in
-    let gone : HaveGone k p server y most (slice_set servers p y) = counted k is p server a.at chosen choice most x y x_is c.count_to.ensures.state orders c.count_to.ensures.no_less servers put in
-    steady_then k p server a.at c.args.self.now c.self.view_is y most most (slice_set servers p y) gone (idle_steady k is p server a.due nobody most a.high a.ahead)
-
-pub returns-in-None-clause-over : goal.returns-in-None-clause-over
-returns-in-None-clause-over c =
-    let k : Inside = c.self.inside in
-    let is : EngineStands k = c.self.invariant in
-    let laws : AreCycleLaws = record { lawful = c.gets.ensures.lawful; over = c.gets.ensures.over; gets = c.gets.ensures.gets; looks = c.gets.ensures.looks; idle = c.gets.ensures.idle; same = c.gets.ensures.same } in
-    let p : ℕ = c.args.processor in
-    let most : ℕ = c.args.most in
-    let server : Server = c.index-server.result.now in
-    let a : IsAsked k p most server = asked k is c.args.self.now c.self.view_is p most server c.gets.ensures.most laws c.requires.known c.requires.early c.requires.some c.requires.inside c.requires.ahead c.index-server.ensures in
-    let read : c.order_by-order.result.now ≡ order_in k server.cycles = order_read k is p server a.at c.order_by-order.result.now c.as_slice.result.now c.as_slice-2.result.now c.order_by-order.ensures c.as_slice.ensures.value c.as_slice-2.ensures in
-    let chosen : Option ℕ = c.choose-chosen.result in
-    let choice : IsChosen server.ready (order_in k server.cycles) chosen = subst (λ o. IsChosen server.ready o chosen) read c.choose-chosen.ensures in
-    let nobody : IsChosen server.ready (order_in k server.cycles) None = subst (IsChosen server.ready (order_in k server.cycles)) c.in-None.is choice in
-    let s : Server = c.index_mut.result.now in
-    let servers : List Server = first k p server a.at chosen s c.index_mut.ensures.value in
-    let put : ArePut k p servers = put_first k p server a.at chosen s c.index_mut.ensures.value in
-    let x : Server = c.index_mut-in-None.result.now in
-    let x_is : x ≡ record server { chosen = chosen } = chosen_is k p server a.at chosen s c.index_mut.ensures.value x c.index_mut-in-None.ensures.value in
-    let y : Server = c.count_to.new.server in
-    let orders : AreInForce k.script.orders y.passed (server.cycles + most) = subst (λ os. AreInForce os y.passed (server.cycles + most)) c.as_slice-in-None.ensures c.count_to.ensures.in_force in
-    let gone : HaveGone k p server y most (slice_set servers p y) = counted k is p server a.at chosen choice most x y x_is c.count_to.ensures.state orders c.count_to.ensures.no_less servers put in
-    over_then k p server a.at c.args.self.now c.self.view_is y most most (slice_set servers p y) gone (λ wrong. absurd (omega (arith, wrong)))
-
-pub returns-then-not-lasted-clause-state : goal.returns-then-not-lasted-clause-state
-returns-then-not-lasted-clause-state c =
-    let k : Inside = c.self.inside in
-    let is : EngineStands k = c.self.invariant in
-    let laws : AreCycleLaws = record { lawful = c.gets.ensures.lawful; over = c.gets.ensures.over; gets = c.gets.ensures.gets; looks = c.gets.ensures.looks; idle = c.gets.ensures.idle; same = c.gets.ensures.same } in
-    let p : ℕ = c.args.processor in
-    let most : ℕ = c.args.most in
-    let server : Server = c.index-server.result.now in
-    let a : IsAsked k p most server = asked k is c.args.self.now c.self.view_is p most server c.gets.ensures.most laws c.requires.known c.requires.early c.requires.some c.requires.inside c.requires.ahead c.index-server.ensures in
-    let read : c.order_by-order.result.now ≡ order_in k server.cycles = order_read k is p server a.at c.order_by-order.result.now c.as_slice.result.now c.as_slice-2.result.now c.order_by-order.ensures c.as_slice.ensures.value c.as_slice-2.ensures in
-    let chosen : Option ℕ = c.choose-chosen.result in
-    let choice : IsChosen server.ready (order_in k server.cycles) chosen = subst (λ o. IsChosen server.ready o chosen) read c.choose-chosen.ensures in
-    let agent : ℕ = c.in-Some.agent in
-    let pick : IsPick server.ready (order_in k server.cycles) agent = subst (IsChosen server.ready (order_in k server.cycles)) c.in-Some.is choice in
-    let date : ℕ = c.last_date-date.result in
-    let date_is : date ≡ dates_done k.shared.date - 1 = c.last_date-date.ensures in
-    let t = takes k is p server a.due agent pick in
-    let may = may_in k is p most server a agent pick date date_is c.index_mut-in-Some.result.now c.index_mut-in-Some-2.result.now c.index_mut-in-Some-3.result.now c.index_mut-in-Some-4.result.now c.index_mut-in-Some.ensures.value c.index_mut-in-Some-2.ensures.value c.index_mut-in-Some-3.ensures.value c.index_mut-in-Some-4.ensures.value c.deref.result.now c.deref-in-Some.result.now c.index_mut-in-Some-5.result.now c.deref.ensures.value c.deref-in-Some.ensures.value c.index_mut-in-Some-5.ensures.value in
+pub returns-then-not-lasted : goal.returns-then-not-lasted
+returns-then-not-lasted c =
+    let at = goal.at.returns-then-not-lasted c in
+    let asks = asked_now at.After-index-server in
+    let b = begun_now at.After-choose-chosen asks (read_now at.After-order_by-order asks) in
+    let a = b.asks in
+    let pick = pick_now at.In-Some b in
+    let l = lasted_now at.After-go_on-lasted b pick in
+    let counts = counted_now at.After-count_to-in-Some b in
+    let drops = dropped_now at.After-drop_chosen b counts in
+    let k = c.self.inside in
+    let is = c.self.invariant in
+    let e = c.args.self.now in
+    let p = c.args.processor in
+    let most = c.args.most in
+    let server = c.index-server.result.now in
+    let date = c.last_date-date.result in
+    let date_is = c.last_date-date.ensures in
     let lasted = c.go_on-lasted.ensures in
-    let n : ℕ = c.go_on-lasted.result.cycles in
-    let r : Action = t.0 in
-    let before : List Action = t.1 in
-    let waits : Option ℕ = deadline k is p server a.due agent pick in
-    let pends = lasted.pending (opening_in k) k.shared.inputs.lists (stalls_of k.script) (turns_in k) r before waits may in
-    let goes = lasted.goes (opening_in k) k.shared.inputs.lists (stalls_of k.script) (turns_in k) r before waits may in
-    let turns : (j : ℕ) → j ≤ n → turns_of (run_in k) (order_in k) (server.cycles + j) p ≡ given_to (turn_of (Some r)) j (turns_of (run_in k) (order_in k) server.cycles p) =
-    λ j less. row k is p server a.due agent pick r before t.2 most a.high a.ahead j (omega (arith, less, lasted.count.1)) (λ i below. pends i (omega (arith, below, less))) in
-    let s : Server = c.index_mut.result.now in
-    let servers : List Server = first k p server a.at chosen s c.index_mut.ensures.value in
-    let put : ArePut k p servers = put_first k p server a.at chosen s c.index_mut.ensures.value in
-    let x : Server = c.index_mut-in-Some-6.result.now in
-    let x_is : x ≡ record server { chosen = chosen } = chosen_is k p server a.at chosen s c.index_mut.ensures.value x c.index_mut-in-Some-6.ensures.value in
-    let y : Server = c.count_to-in-Some.new.server in
-    let orders : AreInForce k.script.orders y.passed (server.cycles + n) = subst (λ os. AreInForce os y.passed (server.cycles + n)) c.as_slice-in-Some.ensures c.count_to-in-Some.ensures.in_force in
-    let put_y : ArePut k p (slice_set servers p y) = put_more k p servers y put in
-    let z : Server = c.drop_chosen.new.server in
-    let y_read : c.index_mut-then-not-lasted.result.now ≡ y = read_put k p server a.at servers y c.index_mut-then-not-lasted.result.now put c.index_mut-then-not-lasted.ensures.value in
-    let z_is : z ≡ record y { ready = slice_set y.ready agent None; stale = true } = c.drop_chosen.ensures ∙ ap (λ (q : Server). record q { ready = slice_set q.ready agent None; stale = true }) y_read in
-    let gone : HaveGone k p server z n (slice_set (slice_set servers p y) p z) = dropped k is p server a.at chosen choice n x y x_is c.count_to-in-Some.ensures.state orders c.count_to-in-Some.ensures.no_less agent z z_is (slice_set servers p y) put_y in
-    state_put k p (slice_set (slice_set servers p y) p z) z (put_more k p (slice_set servers p y) z put_y) gone.there c.args.self.now c.self.view_is
+    let n = c.go_on-lasted.result.cycles in
+    let next = c.drop_chosen.new.server in
+    record {
+      state = state_put k p _ next (put_more k p _ next drops.put) drops.gone.there e c.self.view_is;
+      count = count_then k p server a.at e c.self.view_is next n most _ drops.gone lasted.count.0 lasted.count.1;
+      steady = steady_then k p server a.at e c.self.view_is next n most _ drops.gone (lasted_steady k is p server a.due c.in-Some.agent pick l.r l.before l.t most a.high a.ahead date date_is n lasted.count c.go_on-lasted.new.outbox l.lasts);
+      over = over_then k p server a.at e c.self.view_is next n most _ drops.gone (λ less. lasted_over k is p server a.due c.in-Some.agent pick l.r l.before l.t most a.high a.ahead date date_is n lasted.count c.go_on-lasted.new.outbox l.lasts (is_off c.go_on-lasted.result.goes c.if-not-lasted.true));
+    }
 
-pub returns-then-not-lasted-clause-count : goal.returns-then-not-lasted-clause-count
-returns-then-not-lasted-clause-count c =
-    let k : Inside = c.self.inside in
-    let is : EngineStands k = c.self.invariant in
-    let laws : AreCycleLaws = record { lawful = c.gets.ensures.lawful; over = c.gets.ensures.over; gets = c.gets.ensures.gets; looks = c.gets.ensures.looks; idle = c.gets.ensures.idle; same = c.gets.ensures.same } in
-    let p : ℕ = c.args.processor in
-    let most : ℕ = c.args.most in
-    let server : Server = c.index-server.result.now in
-    let a : IsAsked k p most server = asked k is c.args.self.now c.self.view_is p most server c.gets.ensures.most laws c.requires.known c.requires.early c.requires.some c.requires.inside c.requires.ahead c.index-server.ensures in
-    let read : c.order_by-order.result.now ≡ order_in k server.cycles = order_read k is p server a.at c.order_by-order.result.now c.as_slice.result.now c.as_slice-2.result.now c.order_by-order.ensures c.as_slice.ensures.value c.as_slice-2.ensures in
-    let chosen : Option ℕ = c.choose-chosen.result in
-    let choice : IsChosen server.ready (order_in k server.cycles) chosen = subst (λ o. IsChosen server.ready o chosen) read c.choose-chosen.ensures in
-    let agent : ℕ = c.in-Some.agent in
-    let pick : IsPick server.ready (order_in k server.cycles) agent = subst (IsChosen server.ready (order_in k server.cycles)) c.in-Some.is choice in
-    let date : ℕ = c.last_date-date.result in
-    let date_is : date ≡ dates_done k.shared.date - 1 = c.last_date-date.ensures in
-    let t = takes k is p server a.due agent pick in
-    let may = may_in k is p most server a agent pick date date_is c.index_mut-in-Some.result.now c.index_mut-in-Some-2.result.now c.index_mut-in-Some-3.result.now c.index_mut-in-Some-4.result.now c.index_mut-in-Some.ensures.value c.index_mut-in-Some-2.ensures.value c.index_mut-in-Some-3.ensures.value c.index_mut-in-Some-4.ensures.value c.deref.result.now c.deref-in-Some.result.now c.index_mut-in-Some-5.result.now c.deref.ensures.value c.deref-in-Some.ensures.value c.index_mut-in-Some-5.ensures.value in
+pub returns-else-not-lasted : goal.returns-else-not-lasted
+returns-else-not-lasted c =
+    let at = goal.at.returns-else-not-lasted c in
+    let asks = asked_now at.After-index-server in
+    let b = begun_now at.After-choose-chosen asks (read_now at.After-order_by-order asks) in
+    let a = b.asks in
+    let pick = pick_now at.In-Some b in
+    let l = lasted_now at.After-go_on-lasted b pick in
+    let counts = counted_now at.After-count_to-in-Some b in
+    let k = c.self.inside in
+    let is = c.self.invariant in
+    let e = c.args.self.now in
+    let p = c.args.processor in
+    let most = c.args.most in
+    let server = c.index-server.result.now in
+    let date = c.last_date-date.result in
+    let date_is = c.last_date-date.ensures in
     let lasted = c.go_on-lasted.ensures in
-    let n : ℕ = c.go_on-lasted.result.cycles in
-    let r : Action = t.0 in
-    let before : List Action = t.1 in
-    let waits : Option ℕ = deadline k is p server a.due agent pick in
-    let pends = lasted.pending (opening_in k) k.shared.inputs.lists (stalls_of k.script) (turns_in k) r before waits may in
-    let goes = lasted.goes (opening_in k) k.shared.inputs.lists (stalls_of k.script) (turns_in k) r before waits may in
-    let turns : (j : ℕ) → j ≤ n → turns_of (run_in k) (order_in k) (server.cycles + j) p ≡ given_to (turn_of (Some r)) j (turns_of (run_in k) (order_in k) server.cycles p) =
-    λ j less. row k is p server a.due agent pick r before t.2 most a.high a.ahead j (omega (arith, less, lasted.count.1)) (λ i below. pends i (omega (arith, below, less))) in
-    let s : Server = c.index_mut.result.now in
-    let servers : List Server = first k p server a.at chosen s c.index_mut.ensures.value in
-    let put : ArePut k p servers = put_first k p server a.at chosen s c.index_mut.ensures.value in
-    let x : Server = c.index_mut-in-Some-6.result.now in
-    let x_is : x ≡ record server { chosen = chosen } = chosen_is k p server a.at chosen s c.index_mut.ensures.value x c.index_mut-in-Some-6.ensures.value in
-    let y : Server = c.count_to-in-Some.new.server in
-    let orders : AreInForce k.script.orders y.passed (server.cycles + n) = subst (λ os. AreInForce os y.passed (server.cycles + n)) c.as_slice-in-Some.ensures c.count_to-in-Some.ensures.in_force in
-    let put_y : ArePut k p (slice_set servers p y) = put_more k p servers y put in
-    let z : Server = c.drop_chosen.new.server in
-    let y_read : c.index_mut-then-not-lasted.result.now ≡ y = read_put k p server a.at servers y c.index_mut-then-not-lasted.result.now put c.index_mut-then-not-lasted.ensures.value in
-    let z_is : z ≡ record y { ready = slice_set y.ready agent None; stale = true } = c.drop_chosen.ensures ∙ ap (λ (q : Server). record q { ready = slice_set q.ready agent None; stale = true }) y_read in
-    let gone : HaveGone k p server z n (slice_set (slice_set servers p y) p z) = dropped k is p server a.at chosen choice n x y x_is c.count_to-in-Some.ensures.state orders c.count_to-in-Some.ensures.no_less agent z z_is (slice_set servers p y) put_y in
-    count_then k p server a.at c.args.self.now c.self.view_is z n most (slice_set (slice_set servers p y) p z) gone lasted.count.0 lasted.count.1
-
-pub returns-then-not-lasted-clause-steady : goal.returns-then-not-lasted-clause-steady
-returns-then-not-lasted-clause-steady c =
-    let k : Inside = c.self.inside in
-    let is : EngineStands k = c.self.invariant in
-    let laws : AreCycleLaws = record { lawful = c.gets.ensures.lawful; over = c.gets.ensures.over; gets = c.gets.ensures.gets; looks = c.gets.ensures.looks; idle = c.gets.ensures.idle; same = c.gets.ensures.same } in
-    let p : ℕ = c.args.processor in
-    let most : ℕ = c.args.most in
-    let server : Server = c.index-server.result.now in
-    let a : IsAsked k p most server = asked k is c.args.self.now c.self.view_is p most server c.gets.ensures.most laws c.requires.known c.requires.early c.requires.some c.requires.inside c.requires.ahead c.index-server.ensures in
-    let read : c.order_by-order.result.now ≡ order_in k server.cycles = order_read k is p server a.at c.order_by-order.result.now c.as_slice.result.now c.as_slice-2.result.now c.order_by-order.ensures c.as_slice.ensures.value c.as_slice-2.ensures in
-    let chosen : Option ℕ = c.choose-chosen.result in
-    let choice : IsChosen server.ready (order_in k server.cycles) chosen = subst (λ o. IsChosen server.ready o chosen) read c.choose-chosen.ensures in
-    let agent : ℕ = c.in-Some.agent in
-    let pick : IsPick server.ready (order_in k server.cycles) agent = subst (IsChosen server.ready (order_in k server.cycles)) c.in-Some.is choice in
-    let date : ℕ = c.last_date-date.result in
-    let date_is : date ≡ dates_done k.shared.date - 1 = c.last_date-date.ensures in
-    let t = takes k is p server a.due agent pick in
-    let may = may_in k is p most server a agent pick date date_is c.index_mut-in-Some.result.now c.index_mut-in-Some-2.result.now c.index_mut-in-Some-3.result.now c.index_mut-in-Some-4.result.now c.index_mut-in-Some.ensures.value c.index_mut-in-Some-2.ensures.value c.index_mut-in-Some-3.ensures.value c.index_mut-in-Some-4.ensures.value c.deref.result.now c.deref-in-Some.result.now c.index_mut-in-Some-5.result.now c.deref.ensures.value c.deref-in-Some.ensures.value c.index_mut-in-Some-5.ensures.value in
-    let lasted = c.go_on-lasted.ensures in
-    let n : ℕ = c.go_on-lasted.result.cycles in
-    let r : Action = t.0 in
-    let before : List Action = t.1 in
-    let waits : Option ℕ = deadline k is p server a.due agent pick in
-    let pends = lasted.pending (opening_in k) k.shared.inputs.lists (stalls_of k.script) (turns_in k) r before waits may in
-    let goes = lasted.goes (opening_in k) k.shared.inputs.lists (stalls_of k.script) (turns_in k) r before waits may in
-    let turns : (j : ℕ) → j ≤ n → turns_of (run_in k) (order_in k) (server.cycles + j) p ≡ given_to (turn_of (Some r)) j (turns_of (run_in k) (order_in k) server.cycles p) =
-    λ j less. row k is p server a.due agent pick r before t.2 most a.high a.ahead j (omega (arith, less, lasted.count.1)) (λ i below. pends i (omega (arith, below, less))) in
-    let s : Server = c.index_mut.result.now in
-    let servers : List Server = first k p server a.at chosen s c.index_mut.ensures.value in
-    let put : ArePut k p servers = put_first k p server a.at chosen s c.index_mut.ensures.value in
-    let x : Server = c.index_mut-in-Some-6.result.now in
-    let x_is : x ≡ record server { chosen = chosen } = chosen_is k p server a.at chosen s c.index_mut.ensures.value x c.index_mut-in-Some-6.ensures.value in
-    let y : Server = c.count_to-in-Some.new.server in
-    let orders : AreInForce k.script.orders y.passed (server.cycles + n) = subst (λ os. AreInForce os y.passed (server.cycles + n)) c.as_slice-in-Some.ensures c.count_to-in-Some.ensures.in_force in
-    let put_y : ArePut k p (slice_set servers p y) = put_more k p servers y put in
-    let z : Server = c.drop_chosen.new.server in
-    let y_read : c.index_mut-then-not-lasted.result.now ≡ y = read_put k p server a.at servers y c.index_mut-then-not-lasted.result.now put c.index_mut-then-not-lasted.ensures.value in
-    let z_is : z ≡ record y { ready = slice_set y.ready agent None; stale = true } = c.drop_chosen.ensures ∙ ap (λ (q : Server). record q { ready = slice_set q.ready agent None; stale = true }) y_read in
-    let gone : HaveGone k p server z n (slice_set (slice_set servers p y) p z) = dropped k is p server a.at chosen choice n x y x_is c.count_to-in-Some.ensures.state orders c.count_to-in-Some.ensures.no_less agent z z_is (slice_set servers p y) put_y in
-    steady_then k p server a.at c.args.self.now c.self.view_is z n most (slice_set (slice_set servers p y) p z) gone (given_steady k is p server a.due agent pick r before t.2 n lasted.count.0 turns pends)
-
-pub returns-then-not-lasted-clause-over : goal.returns-then-not-lasted-clause-over
-returns-then-not-lasted-clause-over c =
-    let k : Inside = c.self.inside in
-    let is : EngineStands k = c.self.invariant in
-    let laws : AreCycleLaws = record { lawful = c.gets.ensures.lawful; over = c.gets.ensures.over; gets = c.gets.ensures.gets; looks = c.gets.ensures.looks; idle = c.gets.ensures.idle; same = c.gets.ensures.same } in
-    let p : ℕ = c.args.processor in
-    let most : ℕ = c.args.most in
-    let server : Server = c.index-server.result.now in
-    let a : IsAsked k p most server = asked k is c.args.self.now c.self.view_is p most server c.gets.ensures.most laws c.requires.known c.requires.early c.requires.some c.requires.inside c.requires.ahead c.index-server.ensures in
-    let read : c.order_by-order.result.now ≡ order_in k server.cycles = order_read k is p server a.at c.order_by-order.result.now c.as_slice.result.now c.as_slice-2.result.now c.order_by-order.ensures c.as_slice.ensures.value c.as_slice-2.ensures in
-    let chosen : Option ℕ = c.choose-chosen.result in
-    let choice : IsChosen server.ready (order_in k server.cycles) chosen = subst (λ o. IsChosen server.ready o chosen) read c.choose-chosen.ensures in
-    let agent : ℕ = c.in-Some.agent in
-    let pick : IsPick server.ready (order_in k server.cycles) agent = subst (IsChosen server.ready (order_in k server.cycles)) c.in-Some.is choice in
-    let date : ℕ = c.last_date-date.result in
-    let date_is : date ≡ dates_done k.shared.date - 1 = c.last_date-date.ensures in
-    let t = takes k is p server a.due agent pick in
-    let may = may_in k is p most server a agent pick date date_is c.index_mut-in-Some.result.now c.index_mut-in-Some-2.result.now c.index_mut-in-Some-3.result.now c.index_mut-in-Some-4.result.now c.index_mut-in-Some.ensures.value c.index_mut-in-Some-2.ensures.value c.index_mut-in-Some-3.ensures.value c.index_mut-in-Some-4.ensures.value c.deref.result.now c.deref-in-Some.result.now c.index_mut-in-Some-5.result.now c.deref.ensures.value c.deref-in-Some.ensures.value c.index_mut-in-Some-5.ensures.value in
-    let lasted = c.go_on-lasted.ensures in
-    let n : ℕ = c.go_on-lasted.result.cycles in
-    let r : Action = t.0 in
-    let before : List Action = t.1 in
-    let waits : Option ℕ = deadline k is p server a.due agent pick in
-    let pends = lasted.pending (opening_in k) k.shared.inputs.lists (stalls_of k.script) (turns_in k) r before waits may in
-    let goes = lasted.goes (opening_in k) k.shared.inputs.lists (stalls_of k.script) (turns_in k) r before waits may in
-    let turns : (j : ℕ) → j ≤ n → turns_of (run_in k) (order_in k) (server.cycles + j) p ≡ given_to (turn_of (Some r)) j (turns_of (run_in k) (order_in k) server.cycles p) =
-    λ j less. row k is p server a.due agent pick r before t.2 most a.high a.ahead j (omega (arith, less, lasted.count.1)) (λ i below. pends i (omega (arith, below, less))) in
-    let s : Server = c.index_mut.result.now in
-    let servers : List Server = first k p server a.at chosen s c.index_mut.ensures.value in
-    let put : ArePut k p servers = put_first k p server a.at chosen s c.index_mut.ensures.value in
-    let x : Server = c.index_mut-in-Some-6.result.now in
-    let x_is : x ≡ record server { chosen = chosen } = chosen_is k p server a.at chosen s c.index_mut.ensures.value x c.index_mut-in-Some-6.ensures.value in
-    let y : Server = c.count_to-in-Some.new.server in
-    let orders : AreInForce k.script.orders y.passed (server.cycles + n) = subst (λ os. AreInForce os y.passed (server.cycles + n)) c.as_slice-in-Some.ensures c.count_to-in-Some.ensures.in_force in
-    let put_y : ArePut k p (slice_set servers p y) = put_more k p servers y put in
-    let z : Server = c.drop_chosen.new.server in
-    let y_read : c.index_mut-then-not-lasted.result.now ≡ y = read_put k p server a.at servers y c.index_mut-then-not-lasted.result.now put c.index_mut-then-not-lasted.ensures.value in
-    let z_is : z ≡ record y { ready = slice_set y.ready agent None; stale = true } = c.drop_chosen.ensures ∙ ap (λ (q : Server). record q { ready = slice_set q.ready agent None; stale = true }) y_read in
-    let gone : HaveGone k p server z n (slice_set (slice_set servers p y) p z) = dropped k is p server a.at chosen choice n x y x_is c.count_to-in-Some.ensures.state orders c.count_to-in-Some.ensures.no_less agent z z_is (slice_set servers p y) put_y in
-    over_then k p server a.at c.args.self.now c.self.view_is z n most (slice_set (slice_set servers p y) p z) gone (λ less. over_by k is p server a.due agent pick r before t.2 n lasted.count.0 turns pends c.go_on-lasted.result.goes goes (is_off c.go_on-lasted.result.goes c.if-not-lasted.true))
-
-pub returns-else-not-lasted-clause-state : goal.returns-else-not-lasted-clause-state
-returns-else-not-lasted-clause-state c =
-    let k : Inside = c.self.inside in
-    let is : EngineStands k = c.self.invariant in
-    let laws : AreCycleLaws = record { lawful = c.gets.ensures.lawful; over = c.gets.ensures.over; gets = c.gets.ensures.gets; looks = c.gets.ensures.looks; idle = c.gets.ensures.idle; same = c.gets.ensures.same } in
-    let p : ℕ = c.args.processor in
-    let most : ℕ = c.args.most in
-    let server : Server = c.index-server.result.now in
-    let a : IsAsked k p most server = asked k is c.args.self.now c.self.view_is p most server c.gets.ensures.most laws c.requires.known c.requires.early c.requires.some c.requires.inside c.requires.ahead c.index-server.ensures in
-    let read : c.order_by-order.result.now ≡ order_in k server.cycles = order_read k is p server a.at c.order_by-order.result.now c.as_slice.result.now c.as_slice-2.result.now c.order_by-order.ensures c.as_slice.ensures.value c.as_slice-2.ensures in
-    let chosen : Option ℕ = c.choose-chosen.result in
-    let choice : IsChosen server.ready (order_in k server.cycles) chosen = subst (λ o. IsChosen server.ready o chosen) read c.choose-chosen.ensures in
-    let agent : ℕ = c.in-Some.agent in
-    let pick : IsPick server.ready (order_in k server.cycles) agent = subst (IsChosen server.ready (order_in k server.cycles)) c.in-Some.is choice in
-    let date : ℕ = c.last_date-date.result in
-    let date_is : date ≡ dates_done k.shared.date - 1 = c.last_date-date.ensures in
-    let t = takes k is p server a.due agent pick in
-    let may = may_in k is p most server a agent pick date date_is c.index_mut-in-Some.result.now c.index_mut-in-Some-2.result.now c.index_mut-in-Some-3.result.now c.index_mut-in-Some-4.result.now c.index_mut-in-Some.ensures.value c.index_mut-in-Some-2.ensures.value c.index_mut-in-Some-3.ensures.value c.index_mut-in-Some-4.ensures.value c.deref.result.now c.deref-in-Some.result.now c.index_mut-in-Some-5.result.now c.deref.ensures.value c.deref-in-Some.ensures.value c.index_mut-in-Some-5.ensures.value in
-    let lasted = c.go_on-lasted.ensures in
-    let n : ℕ = c.go_on-lasted.result.cycles in
-    let r : Action = t.0 in
-    let before : List Action = t.1 in
-    let waits : Option ℕ = deadline k is p server a.due agent pick in
-    let pends = lasted.pending (opening_in k) k.shared.inputs.lists (stalls_of k.script) (turns_in k) r before waits may in
-    let goes = lasted.goes (opening_in k) k.shared.inputs.lists (stalls_of k.script) (turns_in k) r before waits may in
-    let turns : (j : ℕ) → j ≤ n → turns_of (run_in k) (order_in k) (server.cycles + j) p ≡ given_to (turn_of (Some r)) j (turns_of (run_in k) (order_in k) server.cycles p) =
-    λ j less. row k is p server a.due agent pick r before t.2 most a.high a.ahead j (omega (arith, less, lasted.count.1)) (λ i below. pends i (omega (arith, below, less))) in
-    let s : Server = c.index_mut.result.now in
-    let servers : List Server = first k p server a.at chosen s c.index_mut.ensures.value in
-    let put : ArePut k p servers = put_first k p server a.at chosen s c.index_mut.ensures.value in
-    let x : Server = c.index_mut-in-Some-6.result.now in
-    let x_is : x ≡ record server { chosen = chosen } = chosen_is k p server a.at chosen s c.index_mut.ensures.value x c.index_mut-in-Some-6.ensures.value in
-    let y : Server = c.count_to-in-Some.new.server in
-    let orders : AreInForce k.script.orders y.passed (server.cycles + n) = subst (λ os. AreInForce os y.passed (server.cycles + n)) c.as_slice-in-Some.ensures c.count_to-in-Some.ensures.in_force in
-    let gone : HaveGone k p server y n (slice_set servers p y) = counted k is p server a.at chosen choice n x y x_is c.count_to-in-Some.ensures.state orders c.count_to-in-Some.ensures.no_less servers put in
-    state_put k p (slice_set servers p y) y (put_more k p servers y put) gone.there c.args.self.now c.self.view_is
-
-pub returns-else-not-lasted-clause-count : goal.returns-else-not-lasted-clause-count
-returns-else-not-lasted-clause-count c =
-    let k : Inside = c.self.inside in
-    let is : EngineStands k = c.self.invariant in
-    let laws : AreCycleLaws = record { lawful = c.gets.ensures.lawful; over = c.gets.ensures.over; gets = c.gets.ensures.gets; looks = c.gets.ensures.looks; idle = c.gets.ensures.idle; same = c.gets.ensures.same } in
-    let p : ℕ = c.args.processor in
-    let most : ℕ = c.args.most in
-    let server : Server = c.index-server.result.now in
-    let a : IsAsked k p most server = asked k is c.args.self.now c.self.view_is p most server c.gets.ensures.most laws c.requires.known c.requires.early c.requires.some c.requires.inside c.requires.ahead c.index-server.ensures in
-    let read : c.order_by-order.result.now ≡ order_in k server.cycles = order_read k is p server a.at c.order_by-order.result.now c.as_slice.result.now c.as_slice-2.result.now c.order_by-order.ensures c.as_slice.ensures.value c.as_slice-2.ensures in
-    let chosen : Option ℕ = c.choose-chosen.result in
-    let choice : IsChosen server.ready (order_in k server.cycles) chosen = subst (λ o. IsChosen server.ready o chosen) read c.choose-chosen.ensures in
-    let agent : ℕ = c.in-Some.agent in
-    let pick : IsPick server.ready (order_in k server.cycles) agent = subst (IsChosen server.ready (order_in k server.cycles)) c.in-Some.is choice in
-    let date : ℕ = c.last_date-date.result in
-    let date_is : date ≡ dates_done k.shared.date - 1 = c.last_date-date.ensures in
-    let t = takes k is p server a.due agent pick in
-    let may = may_in k is p most server a agent pick date date_is c.index_mut-in-Some.result.now c.index_mut-in-Some-2.result.now c.index_mut-in-Some-3.result.now c.index_mut-in-Some-4.result.now c.index_mut-in-Some.ensures.value c.index_mut-in-Some-2.ensures.value c.index_mut-in-Some-3.ensures.value c.index_mut-in-Some-4.ensures.value c.deref.result.now c.deref-in-Some.result.now c.index_mut-in-Some-5.result.now c.deref.ensures.value c.deref-in-Some.ensures.value c.index_mut-in-Some-5.ensures.value in
-    let lasted = c.go_on-lasted.ensures in
-    let n : ℕ = c.go_on-lasted.result.cycles in
-    let r : Action = t.0 in
-    let before : List Action = t.1 in
-    let waits : Option ℕ = deadline k is p server a.due agent pick in
-    let pends = lasted.pending (opening_in k) k.shared.inputs.lists (stalls_of k.script) (turns_in k) r before waits may in
-    let goes = lasted.goes (opening_in k) k.shared.inputs.lists (stalls_of k.script) (turns_in k) r before waits may in
-    let turns : (j : ℕ) → j ≤ n → turns_of (run_in k) (order_in k) (server.cycles + j) p ≡ given_to (turn_of (Some r)) j (turns_of (run_in k) (order_in k) server.cycles p) =
-    λ j less. row k is p server a.due agent pick r before t.2 most a.high a.ahead j (omega (arith, less, lasted.count.1)) (λ i below. pends i (omega (arith, below, less))) in
-    let s : Server = c.index_mut.result.now in
-    let servers : List Server = first k p server a.at chosen s c.index_mut.ensures.value in
-    let put : ArePut k p servers = put_first k p server a.at chosen s c.index_mut.ensures.value in
-    let x : Server = c.index_mut-in-Some-6.result.now in
-    let x_is : x ≡ record server { chosen = chosen } = chosen_is k p server a.at chosen s c.index_mut.ensures.value x c.index_mut-in-Some-6.ensures.value in
-    let y : Server = c.count_to-in-Some.new.server in
-    let orders : AreInForce k.script.orders y.passed (server.cycles + n) = subst (λ os. AreInForce os y.passed (server.cycles + n)) c.as_slice-in-Some.ensures c.count_to-in-Some.ensures.in_force in
-    let gone : HaveGone k p server y n (slice_set servers p y) = counted k is p server a.at chosen choice n x y x_is c.count_to-in-Some.ensures.state orders c.count_to-in-Some.ensures.no_less servers put in
-    count_then k p server a.at c.args.self.now c.self.view_is y n most (slice_set servers p y) gone lasted.count.0 lasted.count.1
-
-pub returns-else-not-lasted-clause-steady : goal.returns-else-not-lasted-clause-steady
-returns-else-not-lasted-clause-steady c =
-    let k : Inside = c.self.inside in
-    let is : EngineStands k = c.self.invariant in
-    let laws : AreCycleLaws = record { lawful = c.gets.ensures.lawful; over = c.gets.ensures.over; gets = c.gets.ensures.gets; looks = c.gets.ensures.looks; idle = c.gets.ensures.idle; same = c.gets.ensures.same } in
-    let p : ℕ = c.args.processor in
-    let most : ℕ = c.args.most in
-    let server : Server = c.index-server.result.now in
-    let a : IsAsked k p most server = asked k is c.args.self.now c.self.view_is p most server c.gets.ensures.most laws c.requires.known c.requires.early c.requires.some c.requires.inside c.requires.ahead c.index-server.ensures in
-    let read : c.order_by-order.result.now ≡ order_in k server.cycles = order_read k is p server a.at c.order_by-order.result.now c.as_slice.result.now c.as_slice-2.result.now c.order_by-order.ensures c.as_slice.ensures.value c.as_slice-2.ensures in
-    let chosen : Option ℕ = c.choose-chosen.result in
-    let choice : IsChosen server.ready (order_in k server.cycles) chosen = subst (λ o. IsChosen server.ready o chosen) read c.choose-chosen.ensures in
-    let agent : ℕ = c.in-Some.agent in
-    let pick : IsPick server.ready (order_in k server.cycles) agent = subst (IsChosen server.ready (order_in k server.cycles)) c.in-Some.is choice in
-    let date : ℕ = c.last_date-date.result in
-    let date_is : date ≡ dates_done k.shared.date - 1 = c.last_date-date.ensures in
-    let t = takes k is p server a.due agent pick in
-    let may = may_in k is p most server a agent pick date date_is c.index_mut-in-Some.result.now c.index_mut-in-Some-2.result.now c.index_mut-in-Some-3.result.now c.index_mut-in-Some-4.result.now c.index_mut-in-Some.ensures.value c.index_mut-in-Some-2.ensures.value c.index_mut-in-Some-3.ensures.value c.index_mut-in-Some-4.ensures.value c.deref.result.now c.deref-in-Some.result.now c.index_mut-in-Some-5.result.now c.deref.ensures.value c.deref-in-Some.ensures.value c.index_mut-in-Some-5.ensures.value in
-    let lasted = c.go_on-lasted.ensures in
-    let n : ℕ = c.go_on-lasted.result.cycles in
-    let r : Action = t.0 in
-    let before : List Action = t.1 in
-    let waits : Option ℕ = deadline k is p server a.due agent pick in
-    let pends = lasted.pending (opening_in k) k.shared.inputs.lists (stalls_of k.script) (turns_in k) r before waits may in
-    let goes = lasted.goes (opening_in k) k.shared.inputs.lists (stalls_of k.script) (turns_in k) r before waits may in
-    let turns : (j : ℕ) → j ≤ n → turns_of (run_in k) (order_in k) (server.cycles + j) p ≡ given_to (turn_of (Some r)) j (turns_of (run_in k) (order_in k) server.cycles p) =
-    λ j less. row k is p server a.due agent pick r before t.2 most a.high a.ahead j (omega (arith, less, lasted.count.1)) (λ i below. pends i (omega (arith, below, less))) in
-    let s : Server = c.index_mut.result.now in
-    let servers : List Server = first k p server a.at chosen s c.index_mut.ensures.value in
-    let put : ArePut k p servers = put_first k p server a.at chosen s c.index_mut.ensures.value in
-    let x : Server = c.index_mut-in-Some-6.result.now in
-    let x_is : x ≡ record server { chosen = chosen } = chosen_is k p server a.at chosen s c.index_mut.ensures.value x c.index_mut-in-Some-6.ensures.value in
-    let y : Server = c.count_to-in-Some.new.server in
-    let orders : AreInForce k.script.orders y.passed (server.cycles + n) = subst (λ os. AreInForce os y.passed (server.cycles + n)) c.as_slice-in-Some.ensures c.count_to-in-Some.ensures.in_force in
-    let gone : HaveGone k p server y n (slice_set servers p y) = counted k is p server a.at chosen choice n x y x_is c.count_to-in-Some.ensures.state orders c.count_to-in-Some.ensures.no_less servers put in
-    steady_then k p server a.at c.args.self.now c.self.view_is y n most (slice_set servers p y) gone (given_steady k is p server a.due agent pick r before t.2 n lasted.count.0 turns pends)
-
-pub returns-else-not-lasted-clause-over : goal.returns-else-not-lasted-clause-over
-returns-else-not-lasted-clause-over c =
-    let k : Inside = c.self.inside in
-    let is : EngineStands k = c.self.invariant in
-    let laws : AreCycleLaws = record { lawful = c.gets.ensures.lawful; over = c.gets.ensures.over; gets = c.gets.ensures.gets; looks = c.gets.ensures.looks; idle = c.gets.ensures.idle; same = c.gets.ensures.same } in
-    let p : ℕ = c.args.processor in
-    let most : ℕ = c.args.most in
-    let server : Server = c.index-server.result.now in
-    let a : IsAsked k p most server = asked k is c.args.self.now c.self.view_is p most server c.gets.ensures.most laws c.requires.known c.requires.early c.requires.some c.requires.inside c.requires.ahead c.index-server.ensures in
-    let read : c.order_by-order.result.now ≡ order_in k server.cycles = order_read k is p server a.at c.order_by-order.result.now c.as_slice.result.now c.as_slice-2.result.now c.order_by-order.ensures c.as_slice.ensures.value c.as_slice-2.ensures in
-    let chosen : Option ℕ = c.choose-chosen.result in
-    let choice : IsChosen server.ready (order_in k server.cycles) chosen = subst (λ o. IsChosen server.ready o chosen) read c.choose-chosen.ensures in
-    let agent : ℕ = c.in-Some.agent in
-    let pick : IsPick server.ready (order_in k server.cycles) agent = subst (IsChosen server.ready (order_in k server.cycles)) c.in-Some.is choice in
-    let date : ℕ = c.last_date-date.result in
-    let date_is : date ≡ dates_done k.shared.date - 1 = c.last_date-date.ensures in
-    let t = takes k is p server a.due agent pick in
-    let may = may_in k is p most server a agent pick date date_is c.index_mut-in-Some.result.now c.index_mut-in-Some-2.result.now c.index_mut-in-Some-3.result.now c.index_mut-in-Some-4.result.now c.index_mut-in-Some.ensures.value c.index_mut-in-Some-2.ensures.value c.index_mut-in-Some-3.ensures.value c.index_mut-in-Some-4.ensures.value c.deref.result.now c.deref-in-Some.result.now c.index_mut-in-Some-5.result.now c.deref.ensures.value c.deref-in-Some.ensures.value c.index_mut-in-Some-5.ensures.value in
-    let lasted = c.go_on-lasted.ensures in
-    let n : ℕ = c.go_on-lasted.result.cycles in
-    let r : Action = t.0 in
-    let before : List Action = t.1 in
-    let waits : Option ℕ = deadline k is p server a.due agent pick in
-    let pends = lasted.pending (opening_in k) k.shared.inputs.lists (stalls_of k.script) (turns_in k) r before waits may in
-    let goes = lasted.goes (opening_in k) k.shared.inputs.lists (stalls_of k.script) (turns_in k) r before waits may in
-    let turns : (j : ℕ) → j ≤ n → turns_of (run_in k) (order_in k) (server.cycles + j) p ≡ given_to (turn_of (Some r)) j (turns_of (run_in k) (order_in k) server.cycles p) =
-    λ j less. row k is p server a.due agent pick r before t.2 most a.high a.ahead j (omega (arith, less, lasted.count.1)) (λ i below. pends i (omega (arith, below, less))) in
-    let s : Server = c.index_mut.result.now in
-    let servers : List Server = first k p server a.at chosen s c.index_mut.ensures.value in
-    let put : ArePut k p servers = put_first k p server a.at chosen s c.index_mut.ensures.value in
-    let x : Server = c.index_mut-in-Some-6.result.now in
-    let x_is : x ≡ record server { chosen = chosen } = chosen_is k p server a.at chosen s c.index_mut.ensures.value x c.index_mut-in-Some-6.ensures.value in
-    let y : Server = c.count_to-in-Some.new.server in
-    let orders : AreInForce k.script.orders y.passed (server.cycles + n) = subst (λ os. AreInForce os y.passed (server.cycles + n)) c.as_slice-in-Some.ensures c.count_to-in-Some.ensures.in_force in
-    let gone : HaveGone k p server y n (slice_set servers p y) = counted k is p server a.at chosen choice n x y x_is c.count_to-in-Some.ensures.state orders c.count_to-in-Some.ensures.no_less servers put in
-    over_then k p server a.at c.args.self.now c.self.view_is y n most (slice_set servers p y) gone (λ less. absurd (omega (arith, less, lasted.whole (is_on c.go_on-lasted.result.goes c.if-not-lasted.false))))
+    let n = c.go_on-lasted.result.cycles in
+    let next = c.count_to-in-Some.new.server in
+    record {
+      state = state_put k p _ next (put_more k p _ next counts.put) counts.gone.there e c.self.view_is;
+      count = count_then k p server a.at e c.self.view_is next n most _ counts.gone lasted.count.0 lasted.count.1;
+      steady = steady_then k p server a.at e c.self.view_is next n most _ counts.gone (lasted_steady k is p server a.due c.in-Some.agent pick l.r l.before l.t most a.high a.ahead date date_is n lasted.count c.go_on-lasted.new.outbox l.lasts);
+      over = over_then k p server a.at e c.self.view_is next n most _ counts.gone (λ less. absurd (omega (arith, less, lasted.whole (is_on c.go_on-lasted.result.goes c.if-not-lasted.false))));
+    }

@@ -23,7 +23,7 @@ returns c =
     ∙ summary_figured k w over (c.one_of_them.ensures.one k.plan.unit) (c.regular.ensures.lawful (run_in k) (Listed w.plan.ways) k.plan.code run)
     (λ agent r supplied held le. c.on_time.ensures.due (run_in k) (order_in k) k.plan.until k.plan.until agent r supplied (omega arith) held le)
     c.reaches.ensures.same
-    ∙ ap (λ figures. figured_lines k.plan figures k.reaches.items k.helds.items) (sym c.deref.ensures.value)
+    ∙ ap (λ runners. figured_lines k.plan runners k.reaches.items k.helds.items) (sym c.deref.ensures.value)
     ∙ ap (λ reaches. figured_lines k.plan c.deref.result.now reaches k.helds.items) (sym c.deref-2.ensures.value)
     ∙ ap (figured_lines k.plan c.deref.result.now c.deref-2.result.now) (sym c.deref-3.ensures.value) in
     record {

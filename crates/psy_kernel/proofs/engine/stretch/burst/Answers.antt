@@ -28,32 +28,45 @@ steps-preserved c = record {
   kept = one_kept (still_kept c.steps.invariant.kept) c.steps-test.true refl c.step-step.new.look c.step-step.ensures.window c.step-step.ensures.kept c.note.new.reaches.items c.note.ensures.reaching c.note.ensures.reached c.step-step.new.self c.step-step.ensures.machine (subst (Answers _) c.in-Went.is c.step-step.ensures.answer);
 }
 
-pub returns-in-Ended-clause-after : goal.returns-in-Ended-clause-after
-returns-in-Ended-clause-after c = λ opening inputs stalls r had may pays other.
-    over (still_kept c.steps.invariant.kept) c.steps-test.true refl opening inputs stalls r had (may, pays) c.step-step.new.look c.step-step.ensures.window c.step-step.ensures.kept c.step-step.new.self c.step-step.ensures.machine
-    (step.Ended c.in-Ended.point) (subst (Answers _) c.in-Ended.is c.step-step.ensures.answer)
-
-pub returns-in-Ended-clause-did : goal.returns-in-Ended-clause-did
-returns-in-Ended-clause-did c = λ opening inputs stalls r had may pays other.
-    done (still_kept c.steps.invariant.kept) c.steps-test.true refl opening inputs stalls r had (may, pays) c.step-step.new.look c.step-step.ensures.window c.step-step.ensures.kept c.step-step.new.self c.step-step.ensures.machine
-    (step.Ended c.in-Ended.point) (subst (Answers _) c.in-Ended.is c.step-step.ensures.answer)
-
-pub returns-in-Trapped-clause-after : goal.returns-in-Trapped-clause-after
-returns-in-Trapped-clause-after c = λ opening inputs stalls r had may pays other.
-    over (still_kept c.steps.invariant.kept) c.steps-test.true refl opening inputs stalls r had (may, pays) c.step-step.new.look c.step-step.ensures.window c.step-step.ensures.kept c.step-step.new.self c.step-step.ensures.machine
-    (step.Trapped c.in-Trapped.kind) (subst (Answers _) c.in-Trapped.is c.step-step.ensures.answer)
-
-pub returns-in-Ended-clause-reached : goal.returns-in-Ended-clause-reached
-returns-in-Ended-clause-reached c = λ opening inputs stalls r had may pays reach are variable at.
-    reached_now (still_kept c.steps.invariant.kept) c.steps-test.true refl c.step-step.new.look c.step-step.ensures.window c.step-step.ensures.kept c.note.new.reaches.items c.note.ensures.reaching c.note.ensures.reached opening inputs stalls r had (may, pays) reach are variable at
+pub returns-in-Ended-clause-leaves : goal.returns-in-Ended-clause-leaves
+returns-in-Ended-clause-leaves c = λ opening inputs stalls r had may pays.
+    let kept = still_kept c.steps.invariant.kept in
+    let more = c.steps-test.true in
+    let next = c.step-step.new in
+    let did = c.step-step.ensures in
+    let answers = subst (Answers _) c.in-Ended.is did.answer in
+    let reached = reached_now kept more refl next.look did.window did.kept c.note.new.reaches.items c.note.ensures.reaching c.note.ensures.reached opening inputs stalls r had (may, pays) in
+    record {
+      on_way = λ went. cc;
+      reached = reached;
+      over = λ other. record {
+        after = over kept more refl opening inputs stalls r had (may, pays) next.look did.window did.kept next.self did.machine (step.Ended c.in-Ended.point) answers;
+        did = done kept more refl opening inputs stalls r had (may, pays) next.look did.window did.kept next.self did.machine (step.Ended c.in-Ended.point) answers;
+        reached = reached;
+      };
+    }
 
 pub returns-in-Ended-clause-others : goal.returns-in-Ended-clause-others
 returns-in-Ended-clause-others c = λ stream other.
     others_now (still_kept c.steps.invariant.kept) c.steps-test.true refl c.step-step.new.look c.step-step.ensures.window c.step-step.ensures.kept c.note.new.reaches.items c.note.ensures.reaching c.note.ensures.reached stream other
 
-pub returns-in-Trapped-clause-reached : goal.returns-in-Trapped-clause-reached
-returns-in-Trapped-clause-reached c = λ opening inputs stalls r had may pays reach are variable at.
-    reached_now (still_kept c.steps.invariant.kept) c.steps-test.true refl c.step-step.new.look c.step-step.ensures.window c.step-step.ensures.kept c.note.new.reaches.items c.note.ensures.reaching c.note.ensures.reached opening inputs stalls r had (may, pays) reach are variable at
+pub returns-in-Trapped-clause-leaves : goal.returns-in-Trapped-clause-leaves
+returns-in-Trapped-clause-leaves c = λ opening inputs stalls r had may pays.
+    let kept = still_kept c.steps.invariant.kept in
+    let more = c.steps-test.true in
+    let next = c.step-step.new in
+    let did = c.step-step.ensures in
+    let answers = subst (Answers _) c.in-Trapped.is did.answer in
+    let reached = reached_now kept more refl next.look did.window did.kept c.note.new.reaches.items c.note.ensures.reaching c.note.ensures.reached opening inputs stalls r had (may, pays) in
+    record {
+      on_way = λ went. cc;
+      reached = reached;
+      over = λ other. record {
+        after = over kept more refl opening inputs stalls r had (may, pays) next.look did.window did.kept next.self did.machine (step.Trapped c.in-Trapped.kind) answers;
+        did = done kept more refl opening inputs stalls r had (may, pays) next.look did.window did.kept next.self did.machine (step.Trapped c.in-Trapped.kind) answers;
+        reached = reached;
+      };
+    }
 
 pub returns-in-Trapped-clause-others : goal.returns-in-Trapped-clause-others
 returns-in-Trapped-clause-others c = λ stream other.
@@ -63,10 +76,12 @@ returns-in-Trapped-clause-others c = λ stream other.
 all_done : (count most : ℕ) → count ≤ most → most ≤ count → count ≡ most
 all_done count most a b = omega (arith, a, b)
 
-pub returns-clause-on_way : goal.returns-clause-on_way
-returns-clause-on_way c = λ opening inputs stalls r had may pays went.
-    subst (λ n. IsOnWay (opened_of c.args.plan.now opening inputs stalls) c.args.plan.now.code r (had + n) c.steps.machine c.steps.eyes.outbox.now.sends c.steps.eyes.taken.now.items)
-    (all_done c.steps.count c.args.most c.steps.invariant.within c.steps-test.false) (c.steps.invariant.kept.on_way opening inputs stalls r had (may, pays))
-
-pub returns-clause-reached : goal.returns-clause-reached
-returns-clause-reached c = λ opening inputs stalls r had may pays. c.steps.invariant.kept.reached opening inputs stalls r had (may, pays)
+pub returns-clause-leaves : goal.returns-clause-leaves
+returns-clause-leaves c = λ opening inputs stalls r had may pays.
+    let kept = c.steps.invariant.kept in
+    record {
+      on_way = λ went. subst (λ n. IsOnWay (opened_of c.args.plan.now opening inputs stalls) c.args.plan.now.code r (had + n) c.steps.machine c.steps.eyes.outbox.now.sends c.steps.eyes.taken.now.items)
+          (all_done c.steps.count c.args.most c.steps.invariant.within c.steps-test.false) (kept.on_way opening inputs stalls r had (may, pays));
+      reached = kept.reached opening inputs stalls r had (may, pays);
+      over = λ other. absurd (other refl);
+    }
