@@ -1,5 +1,8 @@
 -- The lemmas of this crate, by subject.
+mod Behind
 mod Faults
+mod Looking
 mod Names
 mod Readings
+mod Sources
 mod Walked

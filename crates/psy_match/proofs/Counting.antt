@@ -1,11 +1,6 @@
 -- How many notes stand before one that is found.
 use Rattle.std.proofs.Common.{◌≡◌, ◌∙◌, ℕ, ◌+◌, Option, None, Some, refl, ap, arith}
-use Rattle.std.specs.Prelude.{option_map}
-use Rattle.psy_match.specs.Belonging.{behind}
-
--- So many more notes stand before it.
-abbrev pub further : ℕ → Option ℕ → Option ℕ
-further n found = option_map (λ k. k + n) found
+use Rattle.psy_match.specs.Belonging.{behind, further}
 
 -- None stands before the first.
 pub at_first : (found : Option ℕ) → found ≡ further 0 found

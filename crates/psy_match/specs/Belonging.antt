@@ -1,7 +1,9 @@
 -- Whether what psyc wrote is of a program: the number, counted from 1, of the first note that isn't.
-use Rattle.std.specs.Prelude.{ℕ, suc, ◌+◌, ◌==◌, Bool, false, List, [], ◌∷◌, bytes_eq, cond, drop, length, Option, None, Some, option_map, slice_get}
+use Rattle.std.specs.Prelude.{◌≡◌, ◌<◌, ℕ, suc, ◌+◌, ◌-◌, ◌^◌, ◌==◌, Bool, false, List, [], ◌∷◌, ◌++◌, bytes_eq, cond, drop, length, min}
+use Rattle.std.specs.Prelude.{Option, None, Some, option_map, slice_get}
 use Rattle.psy_log.specs.declared.note.Note.{Note}
 use Rattle.psy_log.specs.declared.note.Note.TheVariants as note
+use Rattle.psy_match.specs.declared.run.Belonging.{Belonging}
 use Rattle.psy_tree.specs.declared.unit.AgentDecl.{AgentDecl}
 use Rattle.psy_tree.specs.declared.unit.Point.{Point}
 use Rattle.psy_tree.specs.declared.unit.StreamDecl.{StreamDecl}
@@ -74,3 +76,21 @@ first_in_run agents variables streams (_ ∷ notes) = behind (first_in_run agent
 -- The first note of a run that isn't of a program
 abbrev pub foreign_in_run : Whole → List Note → Option ℕ
 foreign_in_run unit notes = first_in_run unit.agents unit.variables unit.streams notes
+
+-- ---- of a run whose notes come one by one
+
+-- So many more notes stand before it.
+abbrev pub further : ℕ → Option ℕ → Option ℕ
+further n found = option_map (λ k. k + n) found
+
+-- The first note that isn't of the program: the one that was found, or what is found behind so many notes
+abbrev pub found_or : Option ℕ → ℕ → Option ℕ → Option ℕ
+found_or None n more = further n more
+found_or (Some found) n more = Some found
+
+-- These notes of a run were taken in, as far as notes can be counted: whatever notes come behind them, the first of all that isn't of the program was found,
+-- or it is the first of those behind that isn't of what is left.
+pub record Belongs (unit : Whole) (notes : List Note) (belonging : Belonging) : Type 0 where
+  pub count : belonging.notes ≡ min (length notes) (2 ^ 64 - 1)
+  pub goes_on : length notes < 2 ^ 64 - 1 → (more : List Note) → foreign_in_run unit (notes ++ more) ≡ found_or belonging.foreign belonging.notes
+      (first_in_run belonging.left.agents.now belonging.left.variables.now belonging.left.streams.now more)

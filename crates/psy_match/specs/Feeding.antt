@@ -1,8 +1,9 @@
 -- What the inputs of a program publish in a run.
-use Rattle.std.specs.Prelude.{ℕ, ℤ, List, [], ◌∷◌, cond, get_or, length, nat_le, pos, Option, None, Some}
-use Rattle.std.specs.List.{flat_map, range_with_len}
+use Rattle.std.specs.Prelude.{◌≡◌, ℕ, ℤ, Bool, true, false, List, [], ◌∷◌, bytes_eq, cond, get_or, length, map, nat_le, pos, Option, None, Some}
+use Rattle.std.specs.List.{flat_map, list_all, list_any, range_with_len}
 use Rattle.psy_clock.specs.Dates.{date}
 use Rattle.psy_clock.specs.declared.clock.Clock.{Clock}
+use Rattle.psy_draw.specs.Dates.{last_date}
 use Rattle.psy_log.specs.declared.note.Note.{Note}
 use Rattle.psy_log.specs.declared.note.Note.TheVariants as note
 use Rattle.psy_tree.specs.declared.unit.Unit.{Unit as Whole}
@@ -46,3 +47,17 @@ input_values unit lists last number = published_by_input unit lists last number 
 -- What the inputs of a program publish up to a date, one behind the other
 abbrev pub all_input_values : Whole → List (List ℤ) → ℕ → List Published
 all_input_values unit lists last = flat_map (input_values unit lists last) (range_with_len 0 (length unit.variables))
+
+-- The names of a program's variables
+abbrev pub variable_names : Whole → List (List ℕ)
+variable_names unit = map (λ variable. variable.name) unit.variables
+
+-- The note tells a value of a variable of these names.
+abbrev pub is_value_of : List (List ℕ) → Note → Bool
+is_value_of names (note.Value date variable value) = list_any (bytes_eq variable.now) names
+is_value_of names _ = false
+
+-- These notes are what the inputs of a program publish up to the end of a run.
+pub record AreFed (unit : Whole) (lists : List (List ℤ)) (notes more : List Note) : Type 0 where
+  pub values : flat_map published_by more ≡ all_input_values unit lists (last_date notes)
+  pub alone : list_all (is_value_of (variable_names unit)) more ≡ true

@@ -1,7 +1,7 @@
 //! What the inputs of a program publish.
-ghost use Rattle.std.specs.Prelude.{◌≡◌, ◌++◌, ◌<◌, [], IfOk, OnOk, get_or, length};
-ghost use Rattle.std.specs.List.{flat_map, range_with_len};
-ghost use Rattle.psy_match.specs.Feeding.{all_input_values, input_values, published_at, published_by, published_on, values_of};
+ghost use Rattle.std.specs.Prelude.{◌≡◌, ◌++◌, ◌<◌, ℕ, [], List, true, bytes_eq, IfOk, OnOk, get_or, length};
+ghost use Rattle.std.specs.List.{flat_map, list_all, list_any, range_with_len};
+ghost use Rattle.psy_match.specs.Feeding.{all_input_values, input_values, is_value_of, published_at, published_by, published_on, values_of, variable_names};
 ghost use Rattle.psy_tree.specs.Parts.{clock_in};
 
 use psy_base::Items;
@@ -20,7 +20,8 @@ pub fn input_notes<'u>(
     inputs: &Inputs,
     last: u64,
 ) -> Result<Vec<Note<'u>>, AllocError>
-    ensures { IfOk result (λ notes. flat_map published_by notes.items ≡ all_input_values unit.now inputs.now.lists last) }
+    ensures values { IfOk result (λ notes. flat_map published_by notes.items ≡ all_input_values unit.now inputs.now.lists last) }
+    ensures alone { IfOk result (λ notes. list_all (is_value_of (variable_names unit.now)) notes.items ≡ true) }
 {
     let mut notes = Vec::new(alloc);
     'variables: for number in 0..unit.variables.len() {
@@ -38,8 +39,10 @@ fn add_input<'u>(
     number: usize,
 ) -> Result<(), AllocError>
     requires { number < length unit.now.variables }
-    ensures { OnOk result (flat_map published_by notes.new.items ≡ flat_map published_by notes.old.items
+    ensures values { OnOk result (flat_map published_by notes.new.items ≡ flat_map published_by notes.old.items
         ++ input_values unit.now inputs.now.lists last number) }
+    ensures alone { OnOk result (list_all (is_value_of (variable_names unit.now)) notes.old.items ≡ true
+        → list_all (is_value_of (variable_names unit.now)) notes.new.items ≡ true) }
 {
     let variable = &unit.variables.as_slice()[number];
     if variable.owner.is_some() {
@@ -51,7 +54,8 @@ fn add_input<'u>(
         clock_in(unit, variable.clock),
         last,
         values_of(variable, list_of(inputs, number)),
-    )
+    )?;
+    Ok(())
 }
 
 fn clock_in(unit: &Unit, clock: u32) -> Clock
@@ -90,7 +94,10 @@ fn add_values<'u>(
     last: u64,
     values: &[i32],
 ) -> Result<(), AllocError>
-    ensures { OnOk result (flat_map published_by notes.new.items ≡ flat_map published_by notes.old.items ++ published_on name.now clock last values.now) }
+    ensures values { OnOk result (flat_map published_by notes.new.items
+        ≡ flat_map published_by notes.old.items ++ published_on name.now clock last values.now) }
+    ensures alone { OnOk result ((names : List (List ℕ)) → list_any (bytes_eq name.now) names ≡ true → list_all (is_value_of names) notes.old.items ≡ true
+        → list_all (is_value_of names) notes.new.items ≡ true) }
 {
     'values: for number in 0..values.len() {
         add_value(notes, name, clock, last, values, number)?;
@@ -108,8 +115,10 @@ fn add_value<'u>(
     number: usize,
 ) -> Result<(), AllocError>
     requires { number < length values.now }
-    ensures { OnOk result (flat_map published_by notes.new.items ≡ flat_map published_by notes.old.items
+    ensures values { OnOk result (flat_map published_by notes.new.items ≡ flat_map published_by notes.old.items
         ++ published_at name.now clock last values.now number) }
+    ensures alone { OnOk result ((names : List (List ℕ)) → list_any (bytes_eq name.now) names ≡ true → list_all (is_value_of names) notes.old.items ≡ true
+        → list_all (is_value_of names) notes.new.items ≡ true) }
 {
     let date = u128::from(clock.first) + number as u128 * u128::from(clock.period);
     if u128::from(last) < date {

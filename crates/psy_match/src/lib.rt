@@ -1,6 +1,6 @@
 //! What a program tells of what psyc wrote: whether a run or a graph is the program's, from when on its variables are silent, of which processors its
 //! agents are, what its inputs publish, and the lines of its text in which actions begin.
-//! It may know notes, units, lists of inputs, tokens and how a line is shown; nothing of pictures but what their silences and homes are.
+//! It may know notes, units, lists of inputs, tokens and how a line is shown; nothing of pictures but what is asked of notes before they are drawn.
 #![tactic(auto)]
 
 mod fed;
@@ -15,5 +15,5 @@ pub use fed::input_notes;
 pub use graph::foreign_in_graph;
 pub use home::homes;
 pub use point::point_lines;
-pub use run::foreign_in_run;
-pub use silent::silences;
+pub use run::{Belonging, foreign_in_run};
+pub use silent::{Silencing, silences};

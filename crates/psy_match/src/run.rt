@@ -1,17 +1,18 @@
 //! Whether a run is of a program.
-ghost use Rattle.std.specs.Prelude.{◌≡◌, ◌+◌, ◌==◌, ◌∷◌, List, MatchOption, Some, drop, false, length, true};
-ghost use Rattle.psy_log.specs.declared.note.Note.{Note};
-ghost use Rattle.psy_match.specs.Belonging.{behind, first_in_run, foreign_in_run, is_next_agent, is_next_stream, is_next_variable, left_over};
+ghost use Rattle.std.specs.Prelude.{◌≡◌, ◌<◌, ◌+◌, ◌-◌, ◌^◌, ◌==◌, ◌∷◌, ◌++◌, [], List, MatchOption, Some, drop, false, length, true};
+ghost use Rattle.psy_log.specs.declared.note.Note.{Note as Said};
+ghost use Rattle.psy_match.specs.Belonging.{Belongs, behind, first_in_run, foreign_in_run, is_next_agent, is_next_stream, is_next_variable};
+ghost use Rattle.psy_tree.specs.declared.unit.Unit.{Unit as Whole};
 
 use psy_log::Note;
 use psy_tree::{AgentDecl, StreamDecl, Unit, VarDecl};
 
-// What the summary doesn't list yet.
+/// What the summary of a run doesn't list yet of a program.
 #[derive(Clone, Copy)]
-struct Left<'u> {
-    agents: &'u [AgentDecl],
-    variables: &'u [VarDecl],
-    streams: &'u [StreamDecl],
+pub struct Left<'u> {
+    pub agents: &'u [AgentDecl],
+    pub variables: &'u [VarDecl],
+    pub streams: &'u [StreamDecl],
 }
 
 impl Left<'_> {
@@ -22,35 +23,77 @@ impl Left<'_> {
     }
 }
 
+/// Whether a run is of a program. It takes in the notes of the run one by one.
+#[derive(Clone, Copy)]
+pub struct Belonging<'u> {
+    /// What the summary doesn't list yet.
+    pub left: Left<'u>,
+    /// How many notes there were.
+    pub notes: usize,
+    /// The number of the first note that isn't of the program, counted from 1.
+    pub foreign: Option<usize>,
+}
+
+impl<'u> Belonging<'u> {
+    /// Before any note of a run.
+    pub fn of(unit: &'u Unit) -> Belonging<'u>
+        ensures { Belongs unit.now [] result }
+    {
+        Belonging {
+            left: Left {
+                agents: unit.agents.as_slice(),
+                variables: unit.variables.as_slice(),
+                streams: unit.streams.as_slice(),
+            },
+            notes: 0,
+            foreign: None,
+        }
+    }
+
+    /// Takes in a note.
+    pub fn add(&mut self, note: &Note)
+        ensures { (unit : Whole) (notes : List Said) → Belongs unit notes self.old → Belongs unit (notes ++ note.now ∷ []) self.new }
+    {
+        let number = self.notes.saturating_add(1);
+        if self.foreign.is_none() {
+            match behind(self.left, note) {
+                Some(left) => self.left = left,
+                None => self.foreign = Some(number),
+            }
+        }
+        self.notes = number;
+    }
+
+    /// The number, counted from 1, of the first note of the run that isn't of the program: a line of the summary with another name. One more than there are
+    /// notes where the summary lacks some.
+    pub fn first_foreign(&self) -> Option<usize>
+        ensures { (unit : Whole) (notes : List Said) → Belongs unit notes self.now → length notes < 2 ^ 64 - 1 → result ≡ foreign_in_run unit notes }
+    {
+        match self.foreign {
+            Some(number) => Some(number),
+            None if self.left.is_none() => None,
+            None => Some(self.notes.saturating_add(1)),
+        }
+    }
+}
+
 /// The number, counted from 1, of the first note of a run that isn't of the program: a line of the summary with another name. One more than there are
 /// notes where the summary lacks some.
-#[tactic(auto, using(crate::proofs::Counting::at_first, crate::proofs::Counting::one_further, crate::proofs::Counting::here, crate::proofs::Counting::none))]
 pub fn foreign_in_run(notes: &[Note], unit: &Unit) -> Option<usize>
     ensures { result ≡ foreign_in_run unit.now notes.now }
 {
-    let mut left = Left {
-        agents: unit.agents.as_slice(),
-        variables: unit.variables.as_slice(),
-        streams: unit.streams.as_slice(),
-    };
-    'each: for (index, note) in notes.iter().enumerate() {
-        let Some(more) = behind(left, note) else {
-            return Some(index + 1);
-        };
-        left = more;
+    let mut belonging = Belonging::of(unit);
+    for note in notes {
+        belonging.add(note);
     }
-    if left.is_none() {
-        None
-    } else {
-        Some(notes.len() + 1)
-    }
+    belonging.first_foreign()
 }
 
 // What is left behind a note; none where that isn't of the program.
 fn behind<'u>(left: Left<'u>, note: &Note) -> Option<Left<'u>>
     ensures { MatchOption result
-        ((notes : List Note) → first_in_run left.entry.agents.now left.entry.variables.now left.entry.streams.now (note.now ∷ notes) ≡ Some 1)
-        (λ more. (notes : List Note) → first_in_run left.entry.agents.now left.entry.variables.now left.entry.streams.now (note.now ∷ notes)
+        ((notes : List Said) → first_in_run left.entry.agents.now left.entry.variables.now left.entry.streams.now (note.now ∷ notes) ≡ Some 1)
+        (λ more. (notes : List Said) → first_in_run left.entry.agents.now left.entry.variables.now left.entry.streams.now (note.now ∷ notes)
         ≡ behind (first_in_run more.agents.now more.variables.now more.streams.now notes)) }
 {
     match *note {

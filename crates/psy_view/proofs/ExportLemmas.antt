@@ -8,8 +8,8 @@ use Rattle.psy_export.specs.Ending as ending
 use Rattle.psy_export.specs.Exports.{Exports, IsExportFront}
 use Rattle.psy_export.specs.declared.forms.Format.{Format}
 use Rattle.psy_export.specs.declared.forms.Format.TheVariants as format
-use Rattle.psy_view.specs.Answer.{Answers, IsExport, IsOfAnyLength, as_dump, as_table, exported, viewed}
-use Rattle.psy_view.specs.Asked.{AskNothing, Asks, File, Request, by_psyc, files_of}
+use Rattle.psy_view.specs.Answer.{Answers, IsExport, as_dump, as_table, exported, viewed}
+use Rattle.psy_view.specs.Asked.{AskNothing, Asks, File, Request, of_run, files_of}
 use Rattle.psy_view.specs.Fetching.{AreTexts, ComeTo, IsLong, IsTextOf, first}
 use Rattle.psy_view.specs.Outcome.{EndsExport, EndsUnread, IsBegun, MayAnswer, may_answer, may_change, may_miss, no_room, of_long, of_none, of_text}
 use Rattle.psy_view.specs.Outcome.{unread_again, unread_late}
@@ -24,15 +24,11 @@ pub is_export : (name : List ℕ) (to : Format) → IsExport (request_of_export 
 is_export name format.Table = as_table name
 is_export name format.Dump = as_dump name
 
-any_length : (name : List ℕ) (to : Format) → IsOfAnyLength (request_of_export name to) name
-any_length name format.Table = refl
-any_length name format.Dump = refl
-
-come_to : (files : Option Files) (name : List ℕ) (to : Format) → ComeTo files (files_of (request_of_export name to)) (by_psyc name)
+come_to : (files : Option Files) (name : List ℕ) (to : Format) → ComeTo files (files_of (request_of_export name to)) (of_run name)
 come_to files name format.Table = first _ []
 come_to files name format.Dump = first _ []
 
-one_text : (files : Option Files) (name bytes : List ℕ) (to : Format) → IsTextOf files (by_psyc name) bytes → AreTexts files (files_of (request_of_export name to)) (bytes ∷ [])
+one_text : (files : Option Files) (name bytes : List ℕ) (to : Format) → IsTextOf files (of_run name) bytes → AreTexts files (files_of (request_of_export name to)) (bytes ∷ [])
 one_text files name bytes format.Table is = (is, tt)
 one_text files name bytes format.Dump is = (is, tt)
 
@@ -60,23 +56,23 @@ module _ (words : List (List ℕ)) (files : Option Files) (name : List ℕ) (to 
 
   -- ---- what may answer
 
-  of_view : (bytes : List ℕ) (status : ℕ) (text : List ℕ) → IsTextOf files (by_psyc name) bytes → ViewOf (request_of_export name to) (bytes ∷ []) status text
+  of_view : (bytes : List ℕ) (status : ℕ) (text : List ℕ) → IsTextOf files (of_run name) bytes → ViewOf (request_of_export name to) (bytes ∷ []) status text
       → MayAnswer words files b a status text
   of_view bytes status text is views = may_answer status text (viewed _ (bytes ∷ []) status text asks (one_text files name bytes to is) views)
 
   of_miss : Rose b a → MayAnswer words files b a 3 (unread_line name)
-  of_miss rose = may_miss _ (by_psyc name) asks (come_to files name to) rose
+  of_miss rose = may_miss _ (of_run name) asks (come_to files name to) rose
 
-  of_run : IsLong files (by_psyc name) → (status : ℕ) (text : List ℕ) → Exports files name to status text → Answers words files status text
-  of_run long status text exports = exported _ name to status text asks (is_export name to) long exports
+  of_exports : IsLong files (of_run name) → (status : ℕ) (text : List ℕ) → Exports files name to status text → Answers words files status text
+  of_exports long status text exports = exported _ name to status text asks (is_export name to) long exports
 
   -- ---- the clauses
 
   abbrev Answered : ℕ → Type 0
   Answered answer = (written : List ℕ) × Answers words files answer written × Grew old now written
 
-  long_answered : IsLong files (by_psyc name) → (answer : ℕ) → Long answer → answer ≢ 3 → answer ≢ 4 → answer ≢ 8 → Answered answer
-  long_answered long _ (ending.answered status text exports grew same) three four eight = (text, of_run long status text exports, grew)
+  long_answered : IsLong files (of_run name) → (answer : ℕ) → Long answer → answer ≢ 3 → answer ≢ 4 → answer ≢ 8 → Answered answer
+  long_answered long _ (ending.answered status text exports grew same) three four eight = (text, of_exports long status text exports, grew)
   long_answered long _ (ending.unread unreadable grew same) three four eight = absurd (three refl)
   long_answered long _ (ending.left_off text unreadable front grew same) three four eight = absurd (three refl)
   long_answered long _ (ending.cut_short text may grew rose) three four eight = absurd (four refl)
@@ -96,8 +92,8 @@ module _ (words : List (List ℕ)) (files : Option Files) (name : List ℕ) (to 
   untold read (inl rose) = absurd (read rose)
   untold read (inr none) = none
 
-  long_done : IsLong files (by_psyc name) → (answer : ℕ) → Long answer → (Rose b a → ⊥) → (Rose before after → ⊥) → Done answer
-  long_done long _ (ending.answered status text exports grew same) read write = inl (text, of_run long status text exports, grew)
+  long_done : IsLong files (of_run name) → (answer : ℕ) → Long answer → (Rose b a → ⊥) → (Rose before after → ⊥) → Done answer
+  long_done long _ (ending.answered status text exports grew same) read write = inl (text, of_exports long status text exports, grew)
   long_done long _ (ending.unread unreadable grew same) read write = inr (inr (refl, untold read unreadable))
   long_done long _ (ending.left_off text unreadable front grew same) read write = inr (inr (refl, untold read unreadable))
   long_done long _ (ending.cut_short text may grew rose) read write = absurd (write rose)
@@ -128,12 +124,12 @@ module _ (words : List (List ℕ)) (files : Option Files) (name : List ℕ) (to 
   Unread =
       (request : Request) × (file : File) × Asks words request × ComeTo files (files_of request) file × EndsUnread files b a old now request file
 
-  long_read : IsLong files (by_psyc name) → (answer : ℕ) → Long answer → answer ≡ 3 → Unread
+  long_read : IsLong files (of_run name) → (answer : ℕ) → Long answer → answer ≡ 3 → Unread
   long_read long _ (ending.answered status text exports grew same) three = absurd (not_3 status (of_export files name to status text exports) three)
   long_read long _ (ending.unread unreadable grew same) three =
-      (request_of_export name to, by_psyc name, asks, come_to files name to, unread_again (any_length name to) long unreadable grew)
+      (request_of_export name to, of_run name, asks, come_to files name to, unread_again refl long unreadable grew)
   long_read long _ (ending.left_off text unreadable front grew same) three =
-      (request_of_export name to, by_psyc name, asks, come_to files name to, unread_late to text (is_export name to) long unreadable front grew)
+      (request_of_export name to, of_run name, asks, come_to files name to, unread_late to text (is_export name to) long unreadable front grew)
   long_read long _ (ending.cut_short text may grew rose) three = absurd (omega (arith, three))
   long_read long _ (ending.no_memory text front grew same) three = absurd (omega (arith, three))
 
@@ -147,16 +143,16 @@ module _ (words : List (List ℕ)) (files : Option Files) (name : List ℕ) (to 
   abbrev Cut : Type 0
   Cut = (text : List ℕ) × (((status : ℕ) × MayAnswer words files b a status text) ⊎ IsBegun words files text) × GrewByFront old now text
 
-  begun : IsLong files (by_psyc name) → (text : List ℕ) → IsExportFront to files name text → IsBegun words files text
+  begun : IsLong files (of_run name) → (text : List ℕ) → IsExportFront to files name text → IsBegun words files text
   begun long text front = (request_of_export name to, name, to, asks, is_export name to, long, front)
 
-  may_stand : IsLong files (by_psyc name) → (text : List ℕ) → MayStand files name to b a text → ((status : ℕ) × MayAnswer words files b a status text) ⊎ IsBegun words files text
-  may_stand long _ (ending.may_answer status text exports) = inl (status, may_answer status text (of_run long status text exports))
+  may_stand : IsLong files (of_run name) → (text : List ℕ) → MayStand files name to b a text → ((status : ℕ) × MayAnswer words files b a status text) ⊎ IsBegun words files text
+  may_stand long _ (ending.may_answer status text exports) = inl (status, may_answer status text (of_exports long status text exports))
   may_stand long _ (ending.may_miss (inl rose)) = inl (3, of_miss rose)
-  may_stand long _ (ending.may_miss (inr none)) = inl (3, may_change _ name asks (any_length name to) long none)
+  may_stand long _ (ending.may_miss (inr none)) = inl (3, may_change _ (of_run name) asks (come_to files name to) refl long none)
   may_stand long _ (ending.may_begin text front) = inr (begun long text front)
 
-  long_cut : IsLong files (by_psyc name) → (answer : ℕ) → Long answer → answer ≡ 4 → Rose before after × Cut
+  long_cut : IsLong files (of_run name) → (answer : ℕ) → Long answer → answer ≡ 4 → Rose before after × Cut
   long_cut long _ (ending.answered status text exports grew same) four = absurd (not_4 status (of_export files name to status text exports) four)
   long_cut long _ (ending.unread unreadable grew same) four = absurd (omega (arith, four))
   long_cut long _ (ending.left_off text unreadable front grew same) four = absurd (omega (arith, four))
@@ -180,7 +176,7 @@ module _ (words : List (List ℕ)) (files : Option Files) (name : List ℕ) (to 
   abbrev WithoutMemory : Type 0
   WithoutMemory = Grew old now [] ⊎ ((part : List ℕ) × IsBegun words files part × GrewByFront old now part)
 
-  long_memory : IsLong files (by_psyc name) → (answer : ℕ) → Long answer → answer ≡ 8 → WithoutMemory
+  long_memory : IsLong files (of_run name) → (answer : ℕ) → Long answer → answer ≡ 8 → WithoutMemory
   long_memory long _ (ending.answered status text exports grew same) eight = absurd (not_8 status (of_export files name to status text exports) eight)
   long_memory long _ (ending.unread unreadable grew same) eight = absurd (omega (arith, eight))
   long_memory long _ (ending.left_off text unreadable front grew same) eight = absurd (omega (arith, eight))

@@ -1,10 +1,11 @@
 -- The lemmas of this crate, by subject.
 mod AskedLemmas
 mod ExportLemmas
-mod FilmLemmas
+mod FilmingLemmas
 mod PairLemmas
 mod PictureLemmas
 mod PlanLemmas
 mod ReplyLemmas
 mod SelectLemmas
+mod TimelineLemmas
 mod TopLemmas

@@ -1,5 +1,5 @@
 -- How the top call ends, clause by clause.
-use Rattle.std.proofs.Common.{◌≡◌, ◌≢◌, ◌∙◌, sym, subst, refl, ℕ, List, [], ◌++◌, Option, None, ◌⊎◌, inl, inr, arith}
+use Rattle.std.proofs.Common.{◌≡◌, ◌≢◌, ◌∙◌, sym, subst, refl, ℕ, true, List, [], ◌∷◌, Option, None, ◌⊎◌, inl, inr, arith}
 use Rattle.psy_door.specs.Faults.{Rose}
 use Rattle.psy_door.specs.Files.{Files}
 use Rattle.psy_door.specs.Growth.{Grew, GrewByFront}
@@ -12,17 +12,17 @@ use Rattle.psy_export.specs.declared.forms.Format.{Format}
 use Rattle.psy_log.specs.declared.note.Note.{Note}
 use Rattle.psy_match.specs.Knowledge.{knowledge_in}
 use Rattle.psy_tree.specs.declared.unit.Unit.{Unit as Whole}
-use Rattle.psy_view.specs.Answer.{Answers, IsFilmed, IsOfAnyLength, no_words, of_itself, viewed, too_long, exported, filmed}
-use Rattle.psy_view.specs.Answer.{of_run, breaks, has_many}
-use Rattle.psy_view.specs.Asked.{File, Request, Timeline, Table, Dump, Asks, AskNothing, by_psyc, files_of}
-use Rattle.psy_view.specs.Fetching.{ComeTo, IsLong, first}
+use Rattle.psy_view.specs.Answer.{Answers, no_words, of_itself, viewed, too_long, exported, filmed}
+use Rattle.psy_view.specs.Asked.{File, Request, Asks, AskNothing, files_of, of_run}
+use Rattle.psy_view.specs.Fetching.{AreTexts, ComeTo, IsLong, first}
 use Rattle.psy_view.specs.Outcome.{EndsUnread, IsBegun, MayAnswer, may_answer, may_miss, may_change, unread_again, unread_first}
-use Rattle.psy_view.specs.Outcome.{Replies, viewed_all, missed, stopped_at, filmed_all, changed}
+use Rattle.psy_view.specs.Outcome.{IsToldOf, told_of_run, unread_now, changed, Replies, viewed_all, missed, stopped_at, of_long_run}
 use Rattle.psy_export.specs.Refusals.{unread_line}
-use Rattle.psy_view.specs.Views.{ViewOf, where_told, pictured, pictured_of, unpictured_of, pictured_with, unpictured_with, dotted, no_graph, dotted_of, undotted_of}
-use Rattle.psy_view.specs.Views.{tabled, no_table, dumped, no_dump, compared, expected, IsWhere, explained, no_refusal, beyond, IsFed, with_inputs, no_inputs}
+use Rattle.psy_view.specs.Views.{ViewOf, where_told, timeline, dotted, no_graph, dotted_of, undotted_of}
+use Rattle.psy_view.specs.Views.{tabled, no_table, dumped, no_dump, compared, expected, IsWhere, explained, no_refusal, beyond}
 use Rattle.psy_view.specs.Views.{flows, no_flow, lists, no_listing, reports, no_report, unmeasured}
-use Rattle.psy_view.specs.Views.{IsDrawn, of_notes, no_run, IsShown, drawn, unlisted, unknown, empty}
+use Rattle.psy_view.specs.Views.{IsShown, drawn, undrawn, IsFed, with_inputs, undrawn_with, no_inputs}
+use Rattle.psy_view.specs.Views.{IsToldOfNotes, alone, by_program, by_other, by_inputs, with_other, IsTimeline, of_a_run, of_no_run}
 use Rattle.psy_view.specs.Views.{IsCompared, same, differs, first_breaks, second_breaks, IsExpected, kept, unkept, wrong, no_log}
 
 -- ---- the statuses
@@ -34,25 +34,28 @@ IsOfView status = (status ≡ 0) ⊎ (status ≡ 1)
 of_shown : (name : List ℕ) (window : Window) (knowledge : Knowledge) (names : List (List ℕ)) (notes : List Note) (status : ℕ) (text : List ℕ)
     → IsShown name window knowledge names notes status text → IsOfView status
 of_shown name window knowledge names notes _ _ (drawn svg picture) = inl refl
-of_shown name window knowledge names notes _ _ (unlisted line lacks) = inr refl
-of_shown name window knowledge names notes _ _ (unknown place asked listed lacks at) = inr refl
-of_shown name window knowledge names notes _ _ (empty listed known none) = inr refl
-
-of_drawn : (name : List ℕ) (window : Window) (names : List (List ℕ)) (bytes : List ℕ) (status : ℕ) (text : List ℕ) → IsDrawn name window names bytes status text → IsOfView status
-of_drawn name window names bytes _ _ (of_notes notes status text is shows) = of_shown name window nothing names notes status text shows
-of_drawn name window names bytes _ _ (no_run line is) = inr refl
-
-of_filmed : (files : Option Files) (name : List ℕ) (window : Window) (names : List (List ℕ)) (status : ℕ) (text : List ℕ)
-    → IsFilmed files name window names status text → IsOfView status
-of_filmed files name window names _ _ (of_run notes status text run shows) = of_shown name window nothing names notes status text shows
-of_filmed files name window names _ _ (breaks bytes line is at) = inr refl
-of_filmed files name window names _ _ (has_many bytes is many) = inr refl
+of_shown name window knowledge names notes _ _ (undrawn told is) = inr refl
 
 of_fed : (name inputs : List ℕ) (window : Window) (names : List (List ℕ)) (notes : List Note) (unit : Whole) (fed : List ℕ) (status : ℕ) (text : List ℕ)
     → IsFed name inputs window names notes unit fed status text → IsOfView status
-of_fed name inputs window names notes unit fed _ _ (with_inputs given more status text are feed shows) =
-    of_shown name window (knowledge_in unit notes) names (notes ++ more) status text shows
+of_fed name inputs window names notes unit fed _ _ (with_inputs given more svg are feed picture) = inl refl
+of_fed name inputs window names notes unit fed _ _ (undrawn_with given told are is) = inr refl
 of_fed name inputs window names notes unit fed _ _ (no_inputs line told refuses tells) = inr refl
+
+of_notes : (notes : List Note) (request : Request) (texts : List (List ℕ)) (status : ℕ) (text : List ℕ) → IsToldOfNotes notes request texts status text
+    → IsOfView status
+of_notes notes _ _ _ _ (alone name window names status told shows) = of_shown name window nothing names notes status told shows
+of_notes notes _ _ _ _ (by_program name program window names text unit status told own shows) =
+    of_shown name window (knowledge_in unit notes) names notes status told shows
+of_notes notes _ _ _ _ (by_other name program window names text told other) = inr refl
+of_notes notes _ _ _ _ (by_inputs name program inputs window names text fed unit status told own is) =
+    of_fed name inputs window names notes unit fed status told is
+of_notes notes _ _ _ _ (with_other name program inputs window names text fed told other) = inr refl
+
+of_timeline : (IsRead : List ℕ → List Note → Type 0) (IsUnread : List ℕ → List ℕ → Type 0) (request : Request) (texts : List (List ℕ)) (status : ℕ)
+    (text : List ℕ) → IsTimeline IsRead IsUnread request texts status text → IsOfView status
+of_timeline IsRead IsUnread request texts _ _ (of_a_run name notes status told for read is) = of_notes notes request texts status told is
+of_timeline IsRead IsUnread request texts _ _ (of_no_run name told for unread) = inr refl
 
 of_where : (name line bytes : List ℕ) (status : ℕ) (text : List ℕ) → IsWhere name line bytes status text → IsOfView status
 of_where name line bytes _ _ (explained text asked is asks) = inl refl
@@ -73,13 +76,7 @@ of_expected name claims log text _ _ (no_log told is) = inr refl
 
 of_view : (request : Request) (texts : List (List ℕ)) (status : ℕ) (text : List ℕ) → ViewOf request texts status text → IsOfView status
 of_view _ _ _ _ (where_told name line bytes status text is) = of_where name line bytes status text is
-of_view _ _ _ _ (pictured name window names bytes status text is) = of_drawn name window names bytes status text is
-of_view _ _ _ _ (pictured_of name program window names bytes text notes unit status told pair shows) =
-    of_shown name window (knowledge_in unit notes) names notes status told shows
-of_view _ _ _ _ (unpictured_of name program window names bytes text told is) = inr refl
-of_view _ _ _ _ (pictured_with name program inputs window names bytes text fed notes unit status told pair is) =
-    of_fed name inputs window names notes unit fed status told is
-of_view _ _ _ _ (unpictured_with name program inputs window names bytes text fed told is) = inr refl
+of_view _ _ _ _ (timeline request bytes texts status text is) = of_timeline _ _ request texts status text is
 of_view _ _ _ _ (dotted name bytes notes is) = inl refl
 of_view _ _ _ _ (dotted_of name program bytes text notes unit lines pair are) = inl refl
 of_view _ _ _ _ (undotted_of name program bytes text told is) = inr refl
@@ -109,9 +106,10 @@ of_answer : (words : List (List ℕ)) (files : Option Files) (status : ℕ) (tex
 of_answer words files _ _ (no_words more nothing behind) = inl (refl, nothing)
 of_answer words files _ _ (of_itself text asks) = inr (inl refl)
 of_answer words files _ _ (viewed request texts status text asks are is) = inr (of_view request texts status text is)
-of_answer words files _ _ (too_long request file asks limited comes longer) = inr (inr refl)
+of_answer words files _ _ (too_long request file asks comes whole longer) = inr (inr refl)
 of_answer words files _ _ (exported request name to status text asks is longer exports) = inr (of_export files name to status text exports)
-of_answer words files _ _ (filmed name window names status text asks longer is) = inr (of_filmed files name window names status text is)
+of_answer words files _ _ (filmed request name others texts status text asks files_are longer are is) =
+    inr (of_timeline _ _ request texts status text is)
 
 -- The miss of a file
 abbrev Misses : List (List ℕ) → Option Files → ℕ → ℕ → List ℕ → Type 0
@@ -121,8 +119,8 @@ Misses words files before after text =
 -- The change of a file
 abbrev Changes : List (List ℕ) → Option Files → List ℕ → Type 0
 Changes words files text =
-    (request : Request) × (name : List ℕ) × Asks words request × IsOfAnyLength request name × IsLong files (by_psyc name) × (files ≡ None)
-    × (text ≡ unread_line name)
+    (request : Request) × (file : File) × Asks words request × ComeTo files (files_of request) file × (file.in_pieces ≡ true) × IsLong files file
+    × (files ≡ None) × (text ≡ unread_line file.name)
 
 -- An answer's: that, or 3 where a file couldn't be read, or changed
 of_any : (words : List (List ℕ)) (files : Option Files) (before after status : ℕ) (text : List ℕ) → MayAnswer words files before after status text
@@ -132,7 +130,8 @@ of_any words files before after _ _ (may_answer status text is) = elim (of_answe
   | inr view ↦ inr (inl view)
 ]
 of_any words files before after _ _ (may_miss request file asks comes rose) = inr (inr (inl (refl, (request, file, asks, comes, rose, refl))))
-of_any words files before after _ _ (may_change request name asks any longer none) = inr (inr (inr (refl, (request, name, asks, any, longer, none, refl))))
+of_any words files before after _ _ (may_change request file asks comes pieces longer none) =
+    inr (inr (inr (refl, (request, file, asks, comes, pieces, longer, none, refl))))
 
 -- No answer's status is that one
 never : (k : ℕ) → k ≢ 0 → k ≢ 1 → k ≢ 2 → k ≢ 3 → (words : List (List ℕ)) (files : Option Files) (before after status : ℕ) (text : List ℕ) → MayAnswer words files before after status text → status ≢ k
@@ -146,22 +145,30 @@ never k a b c d words files before after status text may e = elim (of_any words 
 
 -- ---- replies
 
+-- The file of a run of any length is come to first.
+come_to : (files : Option Files) (request : Request) (name : List ℕ) (others : List File) → files_of request ≡ of_run name ∷ others
+    → ComeTo files (files_of request) (of_run name)
+come_to files request name others is = subst (λ fs. ComeTo files fs (of_run name)) (sym is) (first (of_run name) others)
+
+-- What is told of a run in a file longer than is read together may answer words that ask for it.
+of_told : (words : List (List ℕ)) (files : Option Files) (b a : ℕ) (request : Request) (name : List ℕ) (others : List File) (texts : List (List ℕ))
+    (status : ℕ) (text : List ℕ) → Asks words request → files_of request ≡ of_run name ∷ others → IsLong files (of_run name) → AreTexts files others texts
+    → IsToldOf files b a request name texts status text → MayAnswer words files b a status text
+of_told words files b a request name others texts _ _ asks is longer are (told_of_run status text tells) =
+    may_answer status text (filmed request name others texts status text asks is longer are tells)
+of_told words files b a request name others texts _ _ asks is longer are (unread_now rose) =
+    may_miss request (of_run name) asks (come_to files request name others is) rose
+of_told words files b a request name others texts _ _ asks is longer are (changed none) =
+    may_change request (of_run name) asks (come_to files request name others is) refl longer none
+
 -- What replies to a request may answer words that ask for it
 pub of_reply : (words : List (List ℕ)) (files : Option Files) (b a : ℕ) (request : Request) (status : ℕ) (text : List ℕ) → Asks words request
     → Replies files b a request status text → MayAnswer words files b a status text
 of_reply words files b a request _ _ asks (viewed_all texts status text are is) = may_answer status text (viewed request texts status text asks are is)
 of_reply words files b a request _ _ asks (missed file comes rose) = may_miss request file asks comes rose
-of_reply words files b a request _ _ asks (stopped_at file limited comes longer) = may_answer _ _ (too_long request file asks limited comes longer)
-of_reply words files b a request _ _ asks (filmed_all name window names status text is longer tells) =
-    may_answer status text (filmed name window names status text (subst (Asks words) is asks) longer tells)
-of_reply words files b a request _ _ asks (changed name any longer none) = may_change request name asks any longer none
-
--- The file of a run of any length is come to first.
-come_to : (files : Option Files) (request : Request) (name : List ℕ) → IsOfAnyLength request name → ComeTo files (files_of request) (by_psyc name)
-come_to files (Timeline log window names) name is = subst (λ n. ComeTo files (files_of (Timeline log window names)) (by_psyc n)) is (first _ [])
-come_to files (Table log) name is = subst (λ n. ComeTo files (files_of (Table log)) (by_psyc n)) is (first _ [])
-come_to files (Dump log) name is = subst (λ n. ComeTo files (files_of (Dump log)) (by_psyc n)) is (first _ [])
-come_to files other name is = absurd is
+of_reply words files b a request _ _ asks (stopped_at file comes whole longer) = may_answer _ _ (too_long request file asks comes whole longer)
+of_reply words files b a request _ _ asks (of_long_run name others texts status text is longer are tells) =
+    of_told words files b a request name others texts status text asks is longer are tells
 
 -- ---- the clauses
 
@@ -178,7 +185,7 @@ by_may : {P : Type 0} (words : List (List ℕ)) (files : Option Files) (before a
     → (Answers words files status text → P) → (status ≡ 3 → Rose before after → P) → (status ≡ 3 → files ≡ None → P) → P
 by_may words files before after _ _ (may_answer status text is) defined misses changes = defined is
 by_may words files before after _ _ (may_miss request file asks comes rose) defined misses changes = misses refl rose
-by_may words files before after _ _ (may_change request name asks any longer none) defined misses changes = changes refl none
+by_may words files before after _ _ (may_change request file asks comes pieces longer none) defined misses changes = changes refl none
 
 pub ends_answered : (words : List (List ℕ)) (files : Option Files) (b a : ℕ) (old now : Option (List ℕ)) (before after answer status : ℕ) (text : List ℕ)
     → MayAnswer words files b a status text → Says old now before after answer status text
@@ -223,7 +230,7 @@ ends_read words files b a old now before after answer status text may says three
       | inr (inr (inl miss)) ↦ let is = miss.1 in (is.0, is.1, is.2, is.3, unread_first is.4 (subst (Grew old now) is.5 grew))
       | inr (inr (inr change)) ↦
           let is = change.1 in
-          (is.0, by_psyc is.1, is.2, come_to files is.0 is.1 is.3, unread_again is.3 is.4 (inr is.5) (subst (Grew old now) is.6 grew))
+          (is.0, is.1, is.2, is.3, unread_again is.4 is.5 (inr is.6) (subst (Grew old now) is.7 grew))
     ])
     (λ cut rose grew. absurd (omega (arith, three, cut)))
 

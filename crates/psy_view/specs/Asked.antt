@@ -94,14 +94,15 @@ pub data AskForText (words : List (List ℕ)) : List ℕ → Type 0 where
 abbrev pub AskNothing : List (List ℕ) → Type 0
 AskNothing words = AskNoView words × ((text : List ℕ) → AskForText words text → ⊥)
 
--- A file that is asked about: its name, and how many bytes it may have
+-- A file that is asked about: its name, how many bytes of it are read together, and whether it may have more, and is read piece by piece then
 pub record File : Type 0 where
   pub name : List ℕ
   pub most : ℕ
+  pub in_pieces : Bool
 
 -- The file of this name, which may have so many bytes
 abbrev pub file_of : List ℕ → ℕ → File
-file_of name most = record { name = name; most = most }
+file_of name most = record { name = name; most = most; in_pieces = false }
 
 -- A file that someone wrote: it may have as many bytes as psyc reads
 abbrev pub by_hand : List ℕ → File
@@ -111,16 +112,20 @@ by_hand name = file_of name FILE_BYTES
 abbrev pub by_psyc : List ℕ → File
 by_psyc name = file_of name TEXT_BYTES
 
+-- The file of a run that is drawn or handed on: so many bytes are read together, and it may have more
+abbrev pub of_run : List ℕ → File
+of_run name = record { name = name; most = TEXT_BYTES; in_pieces = true }
+
 -- The files that are asked about, in the order in which they are read
 abbrev pub files_of : Request → List File
 files_of (Where name line) = by_hand name ∷ []
-files_of (Timeline name window names) = by_psyc name ∷ []
-files_of (TimelineOf name program window names) = by_psyc name ∷ by_hand program ∷ []
-files_of (TimelineWith name program inputs window names) = by_psyc name ∷ by_hand program ∷ by_hand inputs ∷ []
+files_of (Timeline name window names) = of_run name ∷ []
+files_of (TimelineOf name program window names) = of_run name ∷ by_hand program ∷ []
+files_of (TimelineWith name program inputs window names) = of_run name ∷ by_hand program ∷ by_hand inputs ∷ []
 files_of (Dot name) = by_psyc name ∷ []
 files_of (DotOf name program) = by_psyc name ∷ by_hand program ∷ []
-files_of (Table name) = by_psyc name ∷ []
-files_of (Dump name) = by_psyc name ∷ []
+files_of (Table name) = of_run name ∷ []
+files_of (Dump name) = of_run name ∷ []
 files_of (Flow name) = by_hand name ∷ []
 files_of (Listing name) = by_hand name ∷ []
 files_of (Report name until) = by_hand name ∷ []

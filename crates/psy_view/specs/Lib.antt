@@ -2,6 +2,7 @@
 pub mod Answer
 pub mod Asked
 pub mod Fetching
+pub mod Filming
 pub mod Outcome
 pub mod Pairing
 pub mod Reading

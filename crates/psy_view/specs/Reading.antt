@@ -40,7 +40,6 @@ abbrev pub request_of_two : List ℕ → List ℕ → Two → Request
 request_of_two name other two.Diff = Difference name other
 request_of_two name other two.Expect = Expectation name other
 request_of_two name other two.Dot = DotOf name other
-request_of_two name other (two.Timeline selection) = TimelineOf name other selection.window (names_in selection)
 
 -- The request for the run in the file of this name in a format
 abbrev pub request_of_export : List ℕ → Format → Request
@@ -53,6 +52,7 @@ request_of (read.One name view) = request_of_one name.now view
 request_of (read.Timeline name selection) = Timeline name.now selection.window (names_in selection)
 request_of (read.Export name to) = request_of_export name.now to
 request_of (read.Two name other view) = request_of_two name.now other.now view
+request_of (read.Owned name program selection) = TimelineOf name.now program.now selection.window (names_in selection)
 request_of (read.Fed name program inputs selection) = TimelineWith name.now program.now inputs.now selection.window (names_in selection)
 
 -- How many bytes the one file may have

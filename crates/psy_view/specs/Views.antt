@@ -1,6 +1,6 @@
 -- The view of texts that a request asks for: the status, and what is written.
-use Rattle.std.specs.Prelude.{◌≡◌, ℕ, ℤ, ◌-◌, ◌<◌, ◌≤◌, List, [], ◌∷◌, ◌++◌, length, take, codes, Option, None, Some}
-use Rattle.std.specs.List.{flat_map, slice_get}
+use Rattle.std.specs.Prelude.{◌≡◌, ℕ, ℤ, ◌-◌, ◌<◌, List, [], ◌∷◌, ◌++◌, length, take, codes, Option, None, Some}
+use Rattle.std.specs.List.{slice_get}
 use Rattle.psy_base.specs.declared.limits.TheConstants.{LINES}
 use Rattle.psy_log.specs.declared.note.Note.{Note}
 use Rattle.psy_log.specs.Forms.{limit_line, refused_line}
@@ -28,7 +28,7 @@ use Rattle.psy_draw.specs.Places.{window_end}
 use Rattle.psy_draw.specs.declared.window.Window.{Window}
 use Rattle.psy_draw.specs.Knowledge.{Knowledge, nothing}
 use Rattle.psy_match.specs.Belonging.{foreign_in_graph, foreign_in_run}
-use Rattle.psy_match.specs.Feeding.{all_input_values, published_by}
+use Rattle.psy_match.specs.Feeding.{AreFed}
 use Rattle.psy_match.specs.Points.{point_lines}
 use Rattle.psy_match.specs.Homes.{homes_in}
 use Rattle.psy_match.specs.Knowledge.{knowledge_in}
@@ -51,15 +51,19 @@ use Rattle.psy_view.specs.Asked.{Request, Where, Timeline, TimelineOf, TimelineW
 use Rattle.psy_export.specs.Refusals.{unlisted_line}
 use Rattle.psy_view.specs.Refusals.{no_refusal_line, beyond_line, broken_text, unknown_line, empty_line, foreign_line, wrong_line}
 
--- What is told of a run with these notes, of which a window and these names are to be drawn: the picture; or that it has a name that its summary doesn't
--- list, that the summary doesn't list a name that was asked for, or that the window is empty
+-- Why no picture is drawn of a run with these notes, and what is told of that: it has a name that its summary doesn't list, the summary doesn't list a name
+-- that was asked for, or the window is empty
+pub data IsUnshown (name : List ℕ) (window : Window) (names : List (List ℕ)) (notes : List Note) : List ℕ → Type 0 where
+  unlisted : (line : ℕ) → first_unlisted notes ≡ Some line → IsUnshown name window names notes (unlisted_line name line)
+  unknown : (place : ℕ) (asked : List ℕ) → first_unlisted notes ≡ None → first_unasked notes names ≡ Some place → slice_get names place ≡ Some asked
+      → IsUnshown name window names notes (unknown_line name asked)
+  empty : first_unlisted notes ≡ None → first_unasked notes names ≡ None → window_end window (last_date notes) < window.from
+      → IsUnshown name window names notes (empty_line name window.from window.to)
+
+-- What is told of a run with these notes, of which a window and these names are to be drawn: the picture; or why there is none
 pub data IsShown (name : List ℕ) (window : Window) (knowledge : Knowledge) (names : List (List ℕ)) (notes : List Note) : ℕ → List ℕ → Type 0 where
   drawn : (svg : List ℕ) → IsPicture name window knowledge names notes svg → IsShown name window knowledge names notes 0 svg
-  unlisted : (line : ℕ) → first_unlisted notes ≡ Some line → IsShown name window knowledge names notes 1 (unlisted_line name line)
-  unknown : (place : ℕ) (asked : List ℕ) → first_unlisted notes ≡ None → first_unasked notes names ≡ Some place → slice_get names place ≡ Some asked
-      → IsShown name window knowledge names notes 1 (unknown_line name asked)
-  empty : first_unlisted notes ≡ None → first_unasked notes names ≡ None → window_end window (last_date notes) < window.from
-      → IsShown name window knowledge names notes 1 (empty_line name window.from window.to)
+  undrawn : (told : List ℕ) → IsUnshown name window names notes told → IsShown name window knowledge names notes 1 told
 
 -- What is told of a text that is to be drawn: what is told of its notes; or that it isn't what `psyc run` writes
 pub data IsDrawn (name : List ℕ) (window : Window) (names : List (List ℕ)) (bytes : List ℕ) : ℕ → List ℕ → Type 0 where
@@ -150,32 +154,67 @@ pub data RefusesInputs (unit : Whole) (fed : List ℕ) : List ℕ → Type 0 whe
       → RefusesInputs unit fed (refused_line (codes "inputs") (line_number kind) (Some line))
   many_lines : HasManyLines fed → RefusesInputs unit fed (limit_line (codes "lines") LINES)
 
--- What inputs publish up to the end of a run
-abbrev pub AreFed : Whole → List (List ℤ) → List Note → List Note → Type 0
-AreFed unit lists notes more = flat_map published_by more ≡ all_input_values unit lists (last_date notes)
-
--- What is told of a run with these notes, by its program and inputs: the picture, with what the inputs publish behind the notes; or why the inputs are
--- refused
+-- What is told of a run with these notes, by its program and inputs: the picture, with what the inputs publish behind the notes; why there is none; or why
+-- the inputs are refused
 pub data IsFed (name inputs : List ℕ) (window : Window) (names : List (List ℕ)) (notes : List Note) (unit : Whole) (fed : List ℕ) : ℕ → List ℕ → Type 0 where
-  with_inputs : (lists : List (List ℤ)) (more : List Note) (status : ℕ) (told : List ℕ) → AreListsOf unit fed lists → AreFed unit lists notes more
-      → IsShown name window (knowledge_in unit notes) names (notes ++ more) status told → IsFed name inputs window names notes unit fed status told
+  with_inputs : (lists : List (List ℤ)) (more : List Note) (svg : List ℕ) → AreListsOf unit fed lists → AreFed unit lists notes more
+      → IsPicture name window (knowledge_in unit notes) names (notes ++ more) svg → IsFed name inputs window names notes unit fed 0 svg
+  undrawn_with : (lists : List (List ℤ)) (told : List ℕ) → AreListsOf unit fed lists → IsUnshown name window names notes told
+      → IsFed name inputs window names notes unit fed 1 told
   no_inputs : (line told : List ℕ) → RefusesInputs unit fed line → IsTold inputs fed line told → IsFed name inputs window names notes unit fed 1 told
+
+-- ---- pictures of runs, however long they are
+
+-- The notes are a run of the program with this text.
+pub record IsOwnRun (text : List ℕ) (unit : Whole) (notes : List Note) : Type 0 where
+  pub program : IsProgram text unit
+  pub own : foreign_in_run unit notes ≡ None
+
+-- Why they are none, and what is told of that: the text is of no program, or they are a run of another one
+pub data IsOtherRun (name program text : List ℕ) (notes : List Note) : List ℕ → Type 0 where
+  no_program_there : (refusal : Refusal) (told : List ℕ) → IsRefused text refusal → IsTold program text (line_of refusal) told
+      → IsOtherRun name program text notes told
+  of_another : (unit : Whole) (line : ℕ) → IsProgram text unit → foreign_in_run unit notes ≡ Some line
+      → IsOtherRun name program text notes (foreign_line name line program)
+
+-- The request is for a picture of the run in the file of this name.
+abbrev pub IsForRun : Request → List ℕ → Type 0
+IsForRun (Timeline log window names) name = log ≡ name
+IsForRun (TimelineOf log program window names) name = log ≡ name
+IsForRun (TimelineWith log program inputs window names) name = log ≡ name
+IsForRun _ name = ⊥
+
+-- What is told of a run with these notes, of which a picture is asked for, by the texts of the files behind its log
+pub data IsToldOfNotes (notes : List Note) : Request → List (List ℕ) → ℕ → List ℕ → Type 0 where
+  alone : (name : List ℕ) (window : Window) (names : List (List ℕ)) (status : ℕ) (told : List ℕ) → IsShown name window nothing names notes status told
+      → IsToldOfNotes notes (Timeline name window names) [] status told
+  by_program : (name program : List ℕ) (window : Window) (names : List (List ℕ)) (text : List ℕ) (unit : Whole) (status : ℕ) (told : List ℕ)
+      → IsOwnRun text unit notes → IsShown name window (knowledge_in unit notes) names notes status told
+      → IsToldOfNotes notes (TimelineOf name program window names) (text ∷ []) status told
+  by_other : (name program : List ℕ) (window : Window) (names : List (List ℕ)) (text told : List ℕ) → IsOtherRun name program text notes told
+      → IsToldOfNotes notes (TimelineOf name program window names) (text ∷ []) 1 told
+  by_inputs : (name program inputs : List ℕ) (window : Window) (names : List (List ℕ)) (text fed : List ℕ) (unit : Whole) (status : ℕ) (told : List ℕ)
+      → IsOwnRun text unit notes → IsFed name inputs window names notes unit fed status told
+      → IsToldOfNotes notes (TimelineWith name program inputs window names) (text ∷ fed ∷ []) status told
+  with_other : (name program inputs : List ℕ) (window : Window) (names : List (List ℕ)) (text fed told : List ℕ) → IsOtherRun name program text notes told
+      → IsToldOfNotes notes (TimelineWith name program inputs window names) (text ∷ fed ∷ []) 1 told
+
+-- What is told where a picture is asked for: what is told of the notes that the file of its run is read as; or what is told where it isn't read as a run
+pub data IsTimeline (IsRead : List ℕ → List Note → Type 0) (IsUnread : List ℕ → List ℕ → Type 0) (request : Request) (texts : List (List ℕ))
+    : ℕ → List ℕ → Type 0 where
+  of_a_run : (name : List ℕ) (notes : List Note) (status : ℕ) (told : List ℕ) → IsForRun request name → IsRead name notes
+      → IsToldOfNotes notes request texts status told → IsTimeline IsRead IsUnread request texts status told
+  of_no_run : (name told : List ℕ) → IsForRun request name → IsUnread name told → IsTimeline IsRead IsUnread request texts 1 told
+
+-- The text isn't what `psyc run` writes; the line that says so, with the name of its file
+pub data IsNoRun (bytes name : List ℕ) : List ℕ → Type 0 where
+  broken_at : (line : ℕ) → BreaksAt run_begins bytes line → IsNoRun bytes name (broken_text name line (codes "run") bytes)
 
 -- The view, of texts of these bytes, that a request asks for; of a program that is refused, what `where` tells of the line
 pub data ViewOf : Request → List (List ℕ) → ℕ → List ℕ → Type 0 where
   where_told : (name line bytes : List ℕ) (status : ℕ) (text : List ℕ) → IsWhere name line bytes status text → ViewOf (Where name line) (bytes ∷ []) status text
-  pictured : (name : List ℕ) (window : Window) (names : List (List ℕ)) (bytes : List ℕ) (status : ℕ) (text : List ℕ)
-      → IsDrawn name window names bytes status text → ViewOf (Timeline name window names) (bytes ∷ []) status text
-  pictured_of : (name program : List ℕ) (window : Window) (names : List (List ℕ)) (bytes text : List ℕ) (notes : List Note) (unit : Whole) (status : ℕ)
-      (told : List ℕ) → IsRunPair bytes text notes unit → IsShown name window (knowledge_in unit notes) names notes status told
-      → ViewOf (TimelineOf name program window names) (bytes ∷ text ∷ []) status told
-  unpictured_of : (name program : List ℕ) (window : Window) (names : List (List ℕ)) (bytes text told : List ℕ)
-      → IsRunUnpaired name program bytes text told → ViewOf (TimelineOf name program window names) (bytes ∷ text ∷ []) 1 told
-  pictured_with : (name program inputs : List ℕ) (window : Window) (names : List (List ℕ)) (bytes text fed : List ℕ) (notes : List Note) (unit : Whole)
-      (status : ℕ) (told : List ℕ) → IsRunPair bytes text notes unit → IsFed name inputs window names notes unit fed status told
-      → ViewOf (TimelineWith name program inputs window names) (bytes ∷ text ∷ fed ∷ []) status told
-  unpictured_with : (name program inputs : List ℕ) (window : Window) (names : List (List ℕ)) (bytes text fed told : List ℕ)
-      → IsRunUnpaired name program bytes text told → ViewOf (TimelineWith name program inputs window names) (bytes ∷ text ∷ fed ∷ []) 1 told
+  timeline : (request : Request) (bytes : List ℕ) (texts : List (List ℕ)) (status : ℕ) (text : List ℕ)
+      → IsTimeline (λ name notes. IsText run_begins bytes notes) (IsNoRun bytes) request texts status text → ViewOf request (bytes ∷ texts) status text
   dotted : (name bytes : List ℕ) (notes : List Note) → IsText graph_begins bytes notes → ViewOf (Dot name) (bytes ∷ []) 0 (dot_of notes)
   no_graph : (name bytes : List ℕ) (line : ℕ) → BreaksAt graph_begins bytes line
       → ViewOf (Dot name) (bytes ∷ []) 1 (broken_text name line (codes "graph") bytes)

@@ -31,7 +31,13 @@ pub enum Asked<'a> {
     Two {
         name: &'a str,
         other: &'a str,
-        view: Two<'a>,
+        view: Two,
+    },
+    /// The picture of the run in a file, by the program in another.
+    Owned {
+        name: &'a str,
+        program: &'a str,
+        selection: Selection<'a>,
     },
     /// The picture of the run in a file, by the program in another and the inputs in a third.
     Fed {
@@ -66,15 +72,13 @@ pub enum One<'a> {
 
 /// A view of two files.
 #[derive(Clone, Copy)]
-pub enum Two<'a> {
+pub enum Two {
     /// To compare two runs.
     Diff,
     /// To try the assertions in the second file on the run in the first.
     Expect,
     /// To draw the graphs in the first file by the points of the program in the second.
     Dot,
-    /// To draw the run in the first file by the program in the second.
-    Timeline { selection: Selection<'a> },
 }
 
 impl One<'_> {
@@ -89,14 +93,14 @@ impl One<'_> {
     }
 }
 
-impl Two<'_> {
+impl Two {
     /// How many bytes the second file may have; the first is one that psyc wrote.
     pub fn most_of_other(&self) -> usize
         ensures { result ≡ most_of_other self.now }
     {
         match *self {
             Two::Diff => TEXT_BYTES,
-            Two::Expect | Two::Dot | Two::Timeline { .. } => FILE_BYTES,
+            Two::Expect | Two::Dot => FILE_BYTES,
         }
     }
 }

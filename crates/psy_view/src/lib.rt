@@ -5,6 +5,7 @@
 
 mod asked;
 mod export;
+mod feeding;
 mod fetching;
 mod filming;
 mod help;

@@ -1,24 +1,23 @@
 //! Views of what psyc wrote by the program that it is of.
-ghost use Rattle.std.specs.Prelude.{◌≡◌, ◌∷◌, ◌++◌, ◌≤◌, [], Some, IfOk, codes, length};
-ghost use Rattle.psy_base.specs.declared.limits.TheConstants.{FILE_BYTES, LINES, WORD_BYTES};
-ghost use Rattle.psy_log.specs.Forms.{limit_line, line_of as note_line, name_of, refused_line};
+ghost use Rattle.std.specs.Prelude.{◌≡◌, ◌∷◌, ◌++◌, ◌≤◌, [], None, IfOk, length};
+ghost use Rattle.psy_base.specs.declared.limits.TheConstants.{FILE_BYTES};
 ghost use Rattle.psy_meaning.specs.Units.{IsOfText};
-ghost use Rattle.psy_script.specs.Faults.{line_number};
 ghost use Rattle.psy_view.specs.Asked.{DotOf, TimelineOf, TimelineWith};
 ghost use Rattle.psy_view.specs.Reading.{names_in};
+ghost use Rattle.psy_match.specs.Belonging.{foreign_in_run};
 ghost use Rattle.psy_match.specs.Knowledge.{knowledge_in};
-ghost use Rattle.psy_view.specs.Views.{IsFed, IsShown, IsTold, ViewOf};
+ghost use Rattle.psy_view.specs.Views.{IsFed, IsShown, ViewOf};
 
 use crate::asked::Selection;
+use crate::feeding::{Fed, fed_of};
 use crate::pair::{Matched, Pair, graph_of, run_of};
 use crate::picture::shown;
-use crate::told::told_of_refused;
 use crate::view::View;
-use psy_base::{Memory, limits};
+use psy_base::Memory;
 use psy_draw::{Known, dot_by_point, last_date};
-use psy_log::{Line, Note};
+use psy_log::Note;
+use psy_match::laws::fed_alike;
 use psy_match::{homes, input_notes, point_lines, silences};
-use psy_script::{LineKind, TextFault, read_inputs};
 use psy_tree::Unit;
 use std::alloc::{AllocError, Global};
 
@@ -54,7 +53,6 @@ pub fn dotted_of(
 }
 
 /// The picture of the run in a text, by the program in another. The only error is want of memory.
-#[tactic(auto, using(crate::specs::Views::pictured_of, crate::specs::Views::unpictured_of))]
 pub fn drawn_of(
     alloc: Global,
     name: &str,
@@ -113,7 +111,6 @@ pub struct Names<'a> {
 }
 
 /// The picture of the run in a text, by the program in another and the inputs in a third. The only error is want of memory.
-#[tactic(auto, using(crate::specs::Views::pictured_with, crate::specs::Views::unpictured_with))]
 pub fn drawn_with(
     alloc: Global,
     names: Names,
@@ -135,7 +132,6 @@ pub fn drawn_with(
 }
 
 // The same of a run and its program.
-#[tactic(auto, using(crate::specs::Views::with_inputs, crate::specs::Views::no_inputs))]
 fn drawn_by(
     alloc: Global,
     names: Names,
@@ -144,19 +140,18 @@ fn drawn_by(
     fed: &[u8],
 ) -> Result<View, Memory>
     requires text { IsOfText pair.now.program.unit }
+    requires own { foreign_in_run pair.now.program.unit pair.now.notes.items ≡ None }
     requires fed { length fed.now ≤ FILE_BYTES }
     ensures { IfOk result (λ v. IsFed names.entry.log.now names.entry.inputs.now selection.entry.window (names_in selection.entry) pair.now.notes.items
         pair.now.program.unit fed.now v.status v.text.items) }
 {
+    fed_alike();
     let unit = &pair.program.unit;
     let notes = pair.notes.as_slice();
-    let inputs = match read_inputs(alloc, fed, unit) {
-        Ok(inputs) => inputs,
-        Err(TextFault::Line { kind, line }) => {
-            return refused(alloc, names.inputs, fed, refused_at(kind, line));
-        }
-        Err(TextFault::Lines) => return refused(alloc, names.inputs, fed, too_many_lines()),
-        Err(TextFault::Memory) => return Err(Memory),
+    let came = fed_of(alloc, names.inputs, fed, unit)?;
+    let inputs = match came {
+        Fed::Of(inputs) => inputs,
+        Fed::Told(told) => return Ok(told),
     };
     let more = input_notes(alloc, unit, &inputs, last_date(notes))?;
     let all = joined(alloc, notes, more.as_slice())?;
@@ -174,37 +169,4 @@ fn joined<'a>(
     let mut all = Vec::from_slice(alloc, notes)?;
     all.extend_from_slice(more)?;
     Ok(all)
-}
-
-// What is told of inputs that psyc refuses with the line of a note.
-fn refused(alloc: Global, name: &str, fed: &[u8], note: Note) -> Result<View, Memory>
-    requires fed { length fed.now ≤ FILE_BYTES }
-    requires short { length (name_of note) ≤ WORD_BYTES }
-    ensures status { IfOk result (λ v. v.status ≡ 1) }
-    ensures told { IfOk result (λ v. IsTold name.now fed.now (note_line note.entry) v.text.items) }
-{
-    let mut line = Line::new();
-    line.set(&note);
-    told_of_refused(alloc, name, fed, line.bytes())
-}
-
-fn refused_at(kind: LineKind, line: u32) -> Note<'static>
-    ensures line { note_line result ≡ refused_line (codes "inputs") (line_number kind) (Some line) }
-    ensures short { length (name_of result) ≤ WORD_BYTES }
-{
-    Note::Refused {
-        what: b"inputs",
-        number: kind.number(),
-        at: Some(line),
-    }
-}
-
-fn too_many_lines() -> Note<'static>
-    ensures line { note_line result ≡ limit_line (codes "lines") LINES }
-    ensures short { length (name_of result) ≤ WORD_BYTES }
-{
-    Note::Limit {
-        name: b"lines",
-        number: limits::LINES as u64,
-    }
 }

@@ -6,20 +6,19 @@ ghost use Rattle.psy_log.specs.Forms.{words_line};
 ghost use Rattle.psy_export.specs.Ending.{Says};
 ghost use Rattle.psy_words.specs.Faults.{words_told};
 ghost use Rattle.psy_view.specs.Answer.{Answers, IsToldBehind, IsUnexported};
-ghost use Rattle.psy_view.specs.Asked.{AskNothing, Asks, File, Request, TimelineWith, files_of};
+ghost use Rattle.psy_view.specs.Asked.{AskNothing, Asks, File, Request, files_of};
 ghost use Rattle.psy_view.specs.Fetching.{ComeTo};
 ghost use Rattle.psy_view.specs.Outcome.{EndsUnread, IsBegun, MayAnswer, Replies};
-ghost use Rattle.psy_view.specs.Reading.{names_in, request_of, request_of_export, request_of_one, request_of_two};
+ghost use Rattle.psy_view.specs.Reading.{request_of, request_of_export, request_of_one, request_of_two};
 
-use crate::asked::{Asked, One, Selection, TEXT_BYTES, Two};
+use crate::asked::{Asked, One, TEXT_BYTES, Two};
 use crate::export::exported;
 use crate::fetching::{Fetched, fetch};
-use crate::filming::pictured;
-use crate::programs::{Names, drawn_with};
+use crate::filming::{pictured, pictured_of, pictured_with};
+use crate::programs::Names;
 use crate::view::{View, view_of, view_of_both};
 use crate::words::{read_text, read_words};
 use psy_base::Memory;
-use psy_base::limits::FILE_BYTES;
 use psy_door::{Shelf, Sink};
 use psy_export::{Format, say};
 use psy_reel::Reel;
@@ -97,42 +96,6 @@ fn view_of_two<F: Shelf>(
     }
 }
 
-// The picture of a run by its program and inputs; of the first of these files that can't be read or is too long, what is said of that.
-fn view_of_fed<F: Shelf>(
-    alloc: Global,
-    names: Names,
-    selection: Selection,
-    shelf: &mut F,
-) -> Result<View, Memory>
-    ensures replies { IfOk result (λ v. Replies (F.files shelf.old) (F.faults shelf.old) (F.faults shelf.new)
-        (TimelineWith names.entry.log.now names.entry.program.now names.entry.inputs.now selection.entry.window (names_in selection.entry))
-        v.status v.text.items) }
-    ensures shelf { (F.faults shelf.old ≤ F.faults shelf.new) × (F.files shelf.new ≡ F.files shelf.old) }
-{
-    let fetched = fetch(alloc, shelf, names.log, TEXT_BYTES)?;
-    let log = match fetched {
-        Fetched::Text(bytes) => bytes,
-        Fetched::Unread(said) => return Ok(said),
-    };
-    let also = fetch(alloc, shelf, names.program, FILE_BYTES)?;
-    let program = match also {
-        Fetched::Text(bytes) => bytes,
-        Fetched::Unread(said) => return Ok(said),
-    };
-    let last = fetch(alloc, shelf, names.inputs, FILE_BYTES)?;
-    match last {
-        Fetched::Text(inputs) => drawn_with(
-            alloc,
-            names,
-            selection,
-            log.as_slice(),
-            program.as_slice(),
-            inputs.as_slice(),
-        ),
-        Fetched::Unread(said) => Ok(said),
-    }
-}
-
 // What replies to a request.
 fn reply<F: Reel>(alloc: Global, asked: &Asked, shelf: &mut F) -> Result<View, Memory>
     requires { IsUnexported (request_of asked.now) }
@@ -144,12 +107,17 @@ fn reply<F: Reel>(alloc: Global, asked: &Asked, shelf: &mut F) -> Result<View, M
         Asked::Timeline { name, selection } => pictured(alloc, name, *selection, shelf),
         Asked::Export { .. } => unreachable!(),
         Asked::Two { name, other, view } => view_of_two(alloc, name, other, view, shelf),
+        Asked::Owned {
+            name,
+            program,
+            selection,
+        } => pictured_of(alloc, name, program, *selection, shelf),
         Asked::Fed {
             name,
             program,
             inputs,
             selection,
-        } => view_of_fed(
+        } => pictured_with(
             alloc,
             Names {
                 log: name,
@@ -175,7 +143,11 @@ fn wanted<'a>(asked: &Asked<'a>) -> Option<Run<'a>>
 {
     match *asked {
         Asked::Export { name, format } => Some(Run { name, format }),
-        Asked::One { .. } | Asked::Timeline { .. } | Asked::Two { .. } | Asked::Fed { .. } => None,
+        Asked::One { .. }
+        | Asked::Timeline { .. }
+        | Asked::Two { .. }
+        | Asked::Owned { .. }
+        | Asked::Fed { .. } => None,
     }
 }
 

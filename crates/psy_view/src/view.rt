@@ -9,7 +9,7 @@ ghost use Rattle.psy_view.specs.Views.{ViewOf};
 use crate::asked::{One, Two};
 use crate::log::{compared, expected};
 use crate::plan::{fed, listed, reported};
-use crate::programs::{dotted_of, drawn_of};
+use crate::programs::dotted_of;
 use crate::refusals::broken_text;
 use crate::told::told_of;
 use psy_base::Memory;
@@ -55,7 +55,6 @@ pub fn view_of_both(
         Two::Diff => compared(alloc, name, other, first, second),
         Two::Expect => expected(alloc, name, other, first, second),
         Two::Dot => dotted_of(alloc, name, other, first, second),
-        Two::Timeline { selection } => drawn_of(alloc, name, other, selection, first, second),
     }
 }
 

@@ -175,10 +175,10 @@ fn of_program_alone<'a>(name: &'a str, program: &'a str, words: &'a [String]) ->
         (λ asked. Asks (codes "timeline" ∷ name.now ∷ program.now ∷ map string_bytes words.now) (request_of asked)) }
 {
     let selection = selected(words)?;
-    Some(Asked::Two {
+    Some(Asked::Owned {
         name,
-        other: program,
-        view: Two::Timeline { selection },
+        program,
+        selection,
     })
 }
 
@@ -309,7 +309,7 @@ fn date(word: &[u8]) -> Option<u32>
 }
 
 // The view of two files that is made by a command other than `where`, `timeline` and `report`.
-fn two_view(command: &str) -> Option<Two<'static>>
+fn two_view(command: &str) -> Option<Two>
     requires unexplained { command.now ≢ codes "where" }
     requires undrawn { command.now ≢ codes "timeline" }
     requires unreported { command.now ≢ codes "report" }

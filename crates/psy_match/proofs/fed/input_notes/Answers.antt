@@ -6,4 +6,8 @@ use Rattle.psy_match.proofs.fed.input_notes.Goals as goal
 
 pub variables-preserved : goal.variables-preserved
 variables-preserved c =
-    numbered (input_values c.args.unit.now c.args.inputs.now.lists c.args.last) c.variables.number [] _ _ c.variables.invariant c.in_ok-add_input.ensures
+    record {
+      values = numbered (input_values c.args.unit.now c.args.inputs.now.lists c.args.last) c.variables.number [] _ _ c.variables.invariant.values
+          c.in_ok-add_input.ensures.values;
+      alone = c.in_ok-add_input.ensures.alone c.variables.invariant.alone;
+    }

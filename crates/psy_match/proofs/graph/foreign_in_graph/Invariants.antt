@@ -1,7 +1,6 @@
 -- What each loop of `graph::foreign_in_graph` keeps.
 use Rattle.std.proofs.Common.{◌≡◌, [], drop}
-use Rattle.psy_match.specs.Belonging.{first_in_graph}
-use Rattle.psy_match.proofs.Counting.{further}
+use Rattle.psy_match.specs.Belonging.{first_in_graph, further}
 use Rattle.psy_match.proofs.graph.foreign_in_graph.Given as goal
 
 -- The notes so far are the program's, and what is left decides.

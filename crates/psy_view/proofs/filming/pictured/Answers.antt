@@ -1,18 +1,22 @@
 -- What is left of the proof of `filming::pictured`.
-use Rattle.std.proofs.Common.{[], ◌≤◌, length, ap, Err, arith}
-use Rattle.psy_view.specs.Asked.{by_psyc}
+use Rattle.std.proofs.Common.{[], ◌∷◌, refl}
 use Rattle.psy_view.specs.Fetching.{first}
-use Rattle.psy_view.specs.Outcome.{missed}
-use Rattle.psy_view.specs.declared.asked.TheConstants.{TEXT_BYTES}
-use Rattle.psy_view.proofs.FilmLemmas.{drawn_so}
+use Rattle.psy_view.proofs.FilmingLemmas.{drawn_view, long_so, run_unread, viewed_so}
+use Rattle.psy_view.proofs.PlanLemmas.{shown_as}
 use Rattle.psy_view.proofs.filming.pictured.Goals as goal
 
-pub returns-in-Ok-clause-replies : goal.returns-in-Ok-clause-replies
-returns-in-Ok-clause-replies g c =
-    let small : length c.in-Ok.bytes.items ≤ TEXT_BYTES = omega (arith, c.in-Ok.bytes.ok, c.in-Ok.ensures.within) in
-    drawn_so _ _ _ _ _ _ c.in-Ok.bytes.items c.drawn.result (c.in-Ok.ensures.whole, small) (rw c.as_slice.ensures.value at c.drawn.ensures)
+pub returns-in-Unread-clause-replies : goal.returns-in-Unread-clause-replies
+returns-in-Unread-clause-replies g c =
+    run_unread _ _ _ _ c.args.name.now (first _ []) c.in-Unread.said (rw c.in-Unread.is at c.in_ok-fetched.ensures.fetched)
 
-pub returns-in_ok-unread_line-in-Err-Failed-clause-replies : goal.returns-in_ok-unread_line-in-Err-Failed-clause-replies
-returns-in_ok-unread_line-in-Err-Failed-clause-replies g c =
-    rw (c.in_ok-unread_line-in-Err-Failed.ensures, c.as_bytes.ensures.value)
-    (missed (by_psyc c.args.name.now) (first _ []) (c.in-Err-Failed.ensures.failed (ap Err c.in-Err-Failed.field-0-is)))
+pub returns-in-Some-clause-replies : goal.returns-in-Some-clause-replies
+returns-in-Some-clause-replies g c =
+    let is = rw c.in-Some.is at (rw c.in-Read.is at c.in_ok-fetched.ensures.fetched) in
+    viewed_so _ _ _ _ (c.in-Some.bytes.items ∷ []) (is.0, tt) c.drawn.result
+    (shown_as _ _ c.drawn.result (rw c.as_slice.ensures.value at c.drawn.ensures) (drawn_view c.args.name.now c.in-Some.bytes.items _ _))
+
+pub returns-in-None-clause-replies : goal.returns-in-None-clause-replies
+returns-in-None-clause-replies g c =
+    let is = rw c.in-None.is at (rw c.in-Read.is at c.in_ok-fetched.ensures.fetched) in
+    long_so _ _ _ _ c.args.name.now [] [] refl is.0 tt c.filmed.result
+    (rw (c.fetch_run.ensures.shelf.1, is.1) at c.filmed.ensures.told)

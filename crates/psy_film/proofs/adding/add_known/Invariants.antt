@@ -1,0 +1,14 @@
+-- What each loop of `adding::add_known` keeps.
+use Rattle.std.proofs.Common.{◌≡◌, ◌++◌, List, map, take}
+use Rattle.std.specs.Prelude.{string_bytes}
+use Rattle.psy_draw.specs.Gathering.{Counts}
+use Rattle.psy_log.specs.declared.note.Note.{Note}
+use Rattle.psy_film.proofs.adding.add_known.Given as goal
+
+-- The notes so far are known.
+abbrev pub invariant-loop-note : goal.invariant-loop-note
+invariant-loop-note l = record {
+  names : l.known.firsts.names ≡ l.initial.known.firsts.names;
+  counts : (notes : List Note) → Counts (map string_bytes l.names) l.from notes l.initial.known
+      → Counts (map string_bytes l.names) l.from (notes ++ take l.note-index l.more) l.known;
+}
