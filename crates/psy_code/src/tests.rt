@@ -81,31 +81,31 @@ fn an_instruction_has_its_byte_and_its_row(rt: HostRuntime) {
 #[test]
 fn a_binary_operator_has_its_byte(rt: HostRuntime) {
     let table = instructions();
-    for (op, byte) in [
-        (Op2::Mul, 0x20),
-        (Op2::Div, 0x21),
-        (Op2::Rem, 0x22),
-        (Op2::Add, 0x23),
-        (Op2::Sub, 0x24),
-        (Op2::Shl, 0x25),
-        (Op2::Shr, 0x26),
-        (Op2::Lt, 0x27),
-        (Op2::Le, 0x28),
-        (Op2::Gt, 0x29),
-        (Op2::Ge, 0x2A),
-        (Op2::Eq, 0x2B),
-        (Op2::Ne, 0x2C),
-        (Op2::And, 0x2D),
-        (Op2::Xor, 0x2E),
-        (Op2::Or, 0x2F),
+    for (op, at_8, at_16, at_32, at_64) in [
+        (Op2::Mul, 0x40, 0x50, 0x20, 0x60),
+        (Op2::Div, 0x41, 0x51, 0x21, 0x61),
+        (Op2::Rem, 0x42, 0x52, 0x22, 0x62),
+        (Op2::Add, 0x43, 0x53, 0x23, 0x63),
+        (Op2::Sub, 0x44, 0x54, 0x24, 0x64),
+        (Op2::Shl, 0x45, 0x55, 0x25, 0x65),
+        (Op2::Shr, 0x46, 0x56, 0x26, 0x66),
+        (Op2::Lt, 0x47, 0x57, 0x27, 0x67),
+        (Op2::Le, 0x48, 0x58, 0x28, 0x68),
+        (Op2::Gt, 0x49, 0x59, 0x29, 0x69),
+        (Op2::Ge, 0x4A, 0x5A, 0x2A, 0x6A),
+        (Op2::Eq, 0x4B, 0x5B, 0x2B, 0x6B),
+        (Op2::Ne, 0x4C, 0x5C, 0x2C, 0x6C),
+        (Op2::And, 0x4D, 0x5D, 0x2D, 0x6D),
+        (Op2::Xor, 0x4E, 0x5E, 0x2E, 0x6E),
+        (Op2::Or, 0x4F, 0x5F, 0x2F, 0x6F),
     ] {
         let operator = Binary::new(op).expect(&rt, "an instruction's operator");
         assert_eq!(rt; operator.op(), op, "operator of {operator:?}");
         for (width, byte) in [
-            (Width::W32, byte),
-            (Width::W8, byte + 0x20),
-            (Width::W16, byte + 0x30),
-            (Width::W64, byte + 0x40),
+            (Width::W8, at_8),
+            (Width::W16, at_16),
+            (Width::W32, at_32),
+            (Width::W64, at_64),
         ] {
             assert_eq!(rt;
                 Instr::Binary(operator, width).byte(),
