@@ -1,5 +1,6 @@
 -- Where a run of a plan begins: at date 0, or behind the date of a state.
-use Rattle.std.specs.Prelude.{ℕ, ◌+◌, Bool, true, false, List, [], ◌∷◌, Option, Some, None, slice_get, get_or, ℤ}
+use Rattle.std.specs.Prelude.{ℕ, ◌+◌, Bool, false, List, [], ◌∷◌, Option, Some, None, option_map, slice_get, get_or, ℤ}
+use Rattle.std.specs.Option.{is_none}
 use Rattle.psy_code.specs.Execution.{Copy}
 use Rattle.psy_code.specs.Views.{found_in}
 use Rattle.psy_history.specs.Actions.{Next, Opening, first_action}
@@ -7,9 +8,9 @@ use Rattle.psy_history.specs.Executors.{Carried, by_code, copy_in}
 use Rattle.psy_meaning.specs.Alike.{first_copies}
 use Rattle.psy_tree.specs.Parts.{variable_at}
 use Rattle.psy_dates.specs.declared.opening.AgentOpening.{AgentOpening}
+use Rattle.psy_dates.specs.declared.opening.Begun.{Begun}
+use Rattle.psy_dates.specs.declared.opening.NextAction.{NextAction}
 use Rattle.psy_dates.specs.declared.opening.Opening.{Opening as State}
-use Rattle.psy_dates.specs.declared.opening.Standing.{Standing}
-use Rattle.psy_dates.specs.declared.opening.Standing.TheVariants as standing
 use Rattle.psy_dates.specs.declared.opening.StreamOpening.{StreamOpening}
 use Rattle.psy_dates.specs.declared.opening.VarOpening.{VarOpening}
 use Rattle.psy_dates.specs.declared.plan.Plan.{Plan}
@@ -27,29 +28,35 @@ with_values (c ∷ copies) (value ∷ values) = record c { value = value } ∷ w
 abbrev pub carried_with : Plan → ℕ → List ℤ → List ℤ → Carried
 carried_with plan agent cells values = record { cells = cells; copies = with_values (first_copies plan.unit agent) values }
 
--- Where its next action starts behind a date: at that date, or, where it hasn't begun, at its first one; a silent agent starts none.
-abbrev pub starts_by : Plan → ℕ → ℕ → Standing → Option Next
-starts_by plan date agent standing.Waiting = Some (first_action plan.unit plan.nexts (by_code plan.code) agent)
-starts_by plan date agent (standing.Starts number point cells copies) =
-    Some (record { number = number; point = point; start = date; carried = carried_with plan agent cells copies })
-starts_by plan date agent (standing.Silent copies) = None
+-- The action that it starts at a date, with these values of the variables that it owns
+abbrev pub next_at : Plan → ℕ → ℕ → List ℤ → NextAction → Next
+next_at plan date agent copies action =
+    record { number = action.number; point = action.point; start = date; carried = carried_with plan agent action.cells copies }
 
--- It is silent.
-abbrev pub is_silent_by : Standing → Bool
-is_silent_by (standing.Silent copies) = true
-is_silent_by standing = false
+-- What it starts at a date, where it has begun: a silent agent starts nothing.
+abbrev pub next_of : Plan → ℕ → ℕ → Begun → Option Next
+next_of plan date agent begun = option_map (next_at plan date agent begun.copies) begun.action
+
+-- Where its next action starts behind a date: at that date, or, where it hasn't begun, at its first one
+abbrev pub starts_by : Plan → ℕ → ℕ → Option Begun → Option Next
+starts_by plan date agent None = Some (first_action plan.unit plan.nexts (by_code plan.code) agent)
+starts_by plan date agent (Some begun) = next_of plan date agent begun
+
+-- It has begun, and is silent.
+abbrev pub is_silent_by : Option Begun → Bool
+is_silent_by None = false
+is_silent_by (Some begun) = is_none begun.action
 
 -- The value that it committed last of a variable: the variable's first one where it hasn't begun
-abbrev pub committed_by : Plan → ℕ → ℕ → Standing → ℤ
-committed_by plan agent variable standing.Waiting = (variable_at plan.unit variable).init
-committed_by plan agent variable (standing.Starts number point cells copies) = copy_in (carried_with plan agent cells copies) variable
-committed_by plan agent variable (standing.Silent copies) = copy_in (carried_with plan agent [] copies) variable
+abbrev pub committed_by : Plan → ℕ → ℕ → Option Begun → ℤ
+committed_by plan agent variable None = (variable_at plan.unit variable).init
+committed_by plan agent variable (Some begun) = copy_in (carried_with plan agent [] begun.copies) variable
 
 -- ---- a state, by number
 
 -- The agent of a number: one that hasn't begun where there is none
 abbrev pub agent_in : State → ℕ → AgentOpening
-agent_in state agent = get_or state.agents agent (record { standing = standing.Waiting; count = 0; slack = None })
+agent_in state agent = get_or state.agents agent (record { begun = None; count = 0; slack = None })
 
 -- The variable of a number: one that published nothing where there is none
 abbrev pub variable_in : State → ℕ → VarOpening
@@ -62,7 +69,7 @@ stream_in state stream = get_or state.streams stream (record { held = 0; message
 -- The value of a variable that was committed last, by its owner: an input keeps its first value.
 abbrev pub committed_of : Plan → State → ℕ → Option ℕ → ℤ
 committed_of plan state variable None = (variable_at plan.unit variable).init
-committed_of plan state variable (Some owner) = committed_by plan owner variable (agent_in state owner).standing
+committed_of plan state variable (Some owner) = committed_by plan owner variable (agent_in state owner).begun
 
 -- ---- where a run begins
 
@@ -70,8 +77,8 @@ committed_of plan state variable (Some owner) = committed_by plan owner variable
 abbrev pub behind : Plan → State → Opening
 behind plan state = record {
   dates = state.date + 1;
-  starts = λ agent. found_in (slice_get state.agents agent) (λ a. starts_by plan state.date agent a.standing);
-  silent = λ agent. is_silent_by (agent_in state agent).standing;
+  starts = λ agent. found_in (slice_get state.agents agent) (λ a. starts_by plan state.date agent a.begun);
+  silent = λ agent. is_silent_by (agent_in state agent).begun;
   committed = λ variable. committed_of plan state variable (variable_at plan.unit variable).owner;
   published = λ variable. (variable_in state variable).values;
   messages = λ stream. (stream_in state stream).messages;

@@ -23,7 +23,7 @@ mod shared;
 pub use calendar::Calendar;
 pub use date::at_date;
 pub use movers::Movers;
-pub use opening::{AgentOpening, Opening, Standing, StreamOpening, VarOpening};
+pub use opening::{AgentOpening, Begun, NextAction, Opening, StreamOpening, VarOpening};
 pub use outbox::Outbox;
 pub use plan::Plan;
 pub use psy_code::Sent;

@@ -1,29 +1,27 @@
 //! Where a run begins that goes on from a state.
 use psy_base::{Items, Message};
 
-/// What an agent is at behind the date of a state.
+/// An action that an agent starts: its number, its point, and the cells that the agent carries.
 #[derive(Debug, Drop)]
-pub enum Standing {
-    /// Its first date hasn't come.
-    Waiting,
-    /// It starts an action at that date: the action's number, the point, the cells that the agent carries, and by each variable that it owns the
-    /// value committed last, in the order of declaration.
-    Starts {
-        number: u64,
-        point: u32,
-        cells: Items<i64>,
-        copies: Items<i32>,
-    },
-    /// It is silent. By each variable that it owns the value committed last, in the order of declaration.
-    Silent {
-        copies: Items<i32>,
-    },
+pub struct NextAction {
+    pub number: u64,
+    pub point: u32,
+    pub cells: Items<i64>,
 }
 
-/// An agent of a state: what it is at, how many of its actions were due up to the date, and the least slack among them in cycles, if any were.
+/// An agent whose first date has come: by each variable that it owns the value committed last, in the order of declaration; and the action that it
+/// starts at the date of the state, none where it is silent.
+#[derive(Debug, Drop)]
+pub struct Begun {
+    pub copies: Items<i32>,
+    pub action: Option<NextAction>,
+}
+
+/// An agent of a state: what it has once its first date has come, how many of its actions were due up to the date, and the least slack among them in
+/// cycles, if any were.
 #[derive(Debug, Drop)]
 pub struct AgentOpening {
-    pub standing: Standing,
+    pub begun: Option<Begun>,
     pub count: u64,
     pub slack: Option<u64>,
 }
