@@ -8,6 +8,7 @@ use Rattle.std.proofs.lemmas.Option.{slice_get-get_or, slice_get_within}
 use Rattle.psy_base.specs.declared.limits.TheConstants.{COST, FILE_BYTES, RUN, UNTIL}
 use Rattle.psy_base.specs.declared.message.Message.{Message}
 use Rattle.psy_base.specs.declared.sizes.Sizes.{Sizes}
+use Rattle.psy_lists.proofs.lemmas.Places.{there}
 use Rattle.psy_budget.specs.declared.charge.Stall.{Stall}
 use Rattle.psy_door.specs.Files.{Files}
 use Rattle.psy_flow.specs.Costs.{AreAllCosts}
@@ -46,31 +47,11 @@ use Rattle.psy_script.specs.Inputs.{AreListsOf}
 use Rattle.psy_run.specs.Asked.{Asks, Command, asks_check, asks_graph, asks_make, asks_run, asks_run_with_inputs, asks_run_with_script, asks_trial}
 use Rattle.psy_history.specs.Scripts.{order_of, stalls_of}
 use Rattle.psy_agree.specs.Readable.{IsRead, IsReadBack}
+use Rattle.psy_history.proofs.lemmas.NoInputs.{are_no_inputs}
 use Rattle.psy_agree.proofs.GraphFacts.{graphs_tellable}
 use Rattle.psy_agree.proofs.GraphNotes.{graphs_are_read}
 use Rattle.psy_agree.proofs.RunFacts.{HasValues, run_tellable}
 use Rattle.psy_agree.proofs.RunNotes.{IsTellableRun, run_is_read, summary_is_read}
-
--- ---- lists
-
--- There is an element at each place.
-there : {X : Type 0} (xs : List X) (i : ℕ) → i < length xs → (x : X) × (slice_get xs i ≡ Some x)
-there [] i less = absurd (omega (arith, less))
-there (x ∷ xs) zero less = (x, refl)
-there (x ∷ xs) (suc i) less = there xs i (omega (arith, less))
-
-empty_at : {X : Type 0} (xs : List X) (i : ℕ) (list : List ℤ) → slice_get (map (λ x. []) xs) i ≡ Some list → list ≡ []
-empty_at [] i list at = cc
-empty_at (x ∷ xs) zero list at = cc
-empty_at (x ∷ xs) (suc i) list at = empty_at xs i list at
-
--- A program without lists of inputs
-no_inputs_are : (unit : Whole) → AreInputs unit (no_inputs unit)
-no_inputs_are unit = record {
-  count = length-map unit.variables (λ v. []);
-  values = λ k d less. subst AllFit (sym (empty_at unit.variables k (get_or (no_inputs unit) k d) (slice_get-get_or (no_inputs unit) k d less))) (All-nil (FitsSigned w32));
-  owned = λ variable owner list is at. empty_at unit.variables variable list at;
-}
 
 -- What the laws of the crates below say
 pub record AreLaws : Type 0 where
@@ -147,7 +128,7 @@ module _ (laws : AreLaws) where
 
   inputs_of : (files : Option Files) (unit : Whole) (name : Option (List ℕ)) (lists : List (List ℤ)) → (listing files unit name).gives lists → AreInputs unit lists
   unfolding in_row
-  inputs_of files unit None lists same = subst (AreInputs unit) (sym same) (no_inputs_are unit)
+  inputs_of files unit None lists same = subst (AreInputs unit) (sym same) (are_no_inputs unit)
   inputs_of files unit (Some name) lists (bytes, few, stated) = laws.inputs unit bytes lists stated
 
   -- What keeps its bounds is read back.
@@ -170,7 +151,7 @@ module _ (laws : AreLaws) where
   trying_read : (seed until : ℕ) (done : Service) → until ≤ UNTIL → (trying seed until).gives done → Reads done
   unfolding in_row
   trying_read seed until done most (unit, translated, (supply, supplied, (paces, paced, same))) =
-      subst Reads (sym same) (summary_read unit (translated_of (made_text seed) unit (laws.short seed) translated) until supply.nexts supply.sizes (sized_of unit until supply supplied) (no_inputs unit) no_script (no_inputs_are unit) most paced)
+      subst Reads (sym same) (summary_read unit (translated_of (made_text seed) unit (laws.short seed) translated) until supply.nexts supply.sizes (sized_of unit until supply supplied) (no_inputs unit) no_script (are_no_inputs unit) most paced)
 
   serving_read : (words : List (List ℕ)) (files : Option Files) (command : Command) (done : Service) → Asks words command → (serving files command).gives done → Reads done
   serving_read words files _ done (asks_run program date until is asked) gives = running_read files program until None None done asked.most gives

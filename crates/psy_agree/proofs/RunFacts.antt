@@ -1,5 +1,5 @@
 -- What a run tells can be told: its names are words, and its numbers have the bits of their places.
-use Rattle.std.proofs.Common.{◌≡◌, refl, sym, subst, ℕ, zero, suc, ◌+◌, ◌*◌, ◌^◌, ◌<◌, ◌≤◌, ◌==◌, Bool, if◌then◌else◌, List, [], ◌∷◌, ◌++◌, All, length, map, get_or, Option, Some, None, arith, mul-le-mul_right}
+use Rattle.std.proofs.Common.{◌≡◌, refl, sym, subst, ℕ, zero, suc, ◌+◌, ◌*◌, ◌^◌, ◌<◌, ◌≤◌, ◌==◌, if◌then◌else◌, List, [], ◌∷◌, ◌++◌, All, length, map, get_or, Option, Some, None, arith, mul-le-mul_right}
 use Rattle.std.specs.Prelude.{FitsSigned, filter, nat_le}
 use Rattle.std.specs.Int.{w32}
 use Rattle.std.specs.List.{AllByRecursion, flat_map, range_with_len}
@@ -8,6 +8,7 @@ use Rattle.std.proofs.lemmas.List.Elements.{All-filter, All-map, recursion_from_
 use Rattle.psy_base.specs.declared.limits.TheConstants.{QUEUE, RING, RUN, UNTIL}
 use Rattle.psy_base.specs.declared.message.Message.{Message}
 use Rattle.psy_base.specs.declared.sizes.Sizes.{Sizes}
+use Rattle.psy_lists.proofs.lemmas.Searches.{filter_less}
 use Rattle.psy_text.specs.Fronts.{IsName}
 use Rattle.psy_history.specs.Actions.{Action, Done, History, Next, Overran, System, Trapped, Verdict, next_of, publishing, stream_of, variable_of}
 use Rattle.psy_meaning.specs.BufferSizes.{AreSizes}
@@ -34,11 +35,6 @@ all_made : {X : Type 0} (P : X → Type 0) (f : ℕ → List X) (first n below :
 all_made P f first zero below within each = tt
 all_made P f first (suc n) below within each =
     all_append P (f first) (flat_map f (range_with_len (first + 1) n)) (each first (omega (arith, within))) (all_made P f (first + 1) n below (omega (arith, within)) each)
-
-length_filter : {X : Type 0} (p : X → Bool) (xs : List X) → length (filter p xs) ≤ length xs
-length_filter p [] = omega arith
-length_filter p (x ∷ xs) = let rest = length_filter p xs in
-    cond_both (p x) (x ∷ filter p xs) (filter p xs) (λ ys. length ys ≤ length (x ∷ xs)) (λ t. omega (arith, rest)) (λ t. omega (arith, rest))
 
 -- ---- histories
 
@@ -174,7 +170,7 @@ module _ (s : System) (turns : ℕ → List (Option Turn)) (sizes : Sizes) (unti
         variables = names.variables;
         streams = names.streams;
         counts = λ agent. (let actions = history s (until + 1) agent in
-            let few : length (due_by until actions) < 2 ^ 64 = omega (arith, length_filter (λ (r : Action). nat_le r.deadline until) actions, few_actions s (until + 1) agent, most) in
+            let few : length (due_by until actions) < 2 ^ 64 = omega (arith, filter_less (λ (r : Action). nat_le r.deadline until) actions, few_actions s (until + 1) agent, most) in
             subst (λ n. IsLong (added_to n (length (due_by until actions)))) (sym (plain.count agent)) few);
         slacks = λ agent. (let due = due_by until (history s (until + 1) agent) in
             let slacks = map (slack_of s.unit.quantum (turns agent)) due in

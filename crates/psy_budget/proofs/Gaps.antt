@@ -1,10 +1,11 @@
 -- Instructions of an action with no stall before them that costs anything.
 use Rattle.std.proofs.Common.{◌≡◌, ℕ, zero, suc, ◌+◌, ◌-◌, ◌<◌, ◌≤◌, List, Some, slice_get, sym, ap, ◌∙◌, subst, inl, inr, arith}
 use Rattle.std.proofs.lemmas.Option.{slice_get_within, get_or_from_slice_get}
+use Rattle.psy_budget.proofs.lemmas.Stalls.{more_stalled}
 use Rattle.psy_budget.specs.declared.charge.Stall.{Stall}
 use Rattle.psy_budget.specs.Charges.{StallsRise, stalled}
 use Rattle.psy_budget.specs.Standing.{IsAtLeast, AreSplit}
-use Rattle.psy_budget.proofs.Splits.{one_more, none_more, more_stalled}
+use Rattle.psy_budget.proofs.Splits.{one_more, none_more}
 
 module _ (stalls : List Stall) (place action : ℕ) (rise : StallsRise stalls) where
   -- No stall stands before the next k instructions.

@@ -2,4 +2,4 @@
 mod Gaps
 mod Splits
 mod Stretches
-mod Units
+pub mod lemmas

@@ -117,20 +117,3 @@ module _ (action n : ℕ) where
         record { within = split.within; below = λ k d less. below_more (get_or stalls k d) (split.below k d less); others = later },
         sum_same (cost (n + 1)) (cost n) stalls each,
       )
-
-none_costs : (action : ℕ) (s : Stall) → cost action 0 0 s ≡ 0
-none_costs action s = grind (arith, nat_tests)
-
--- Before no instruction nothing is stalled.
-pub none_stalled : (action : ℕ) (stalls : List Stall) → stalled stalls action 0 ≡ 0
-none_stalled action [] = refl
-none_stalled action (s ∷ stalls) = omega (arith, sum_by-cons (cost action 0 0) s stalls, none_costs action s, none_stalled action stalls)
-
-more_cost : (action n m : ℕ) (s : Stall) → n ≤ m → cost action 0 n s ≤ cost action 0 m s
-more_cost action n m s more = grind (arith, nat_tests)
-
--- Before more instructions no less is stalled.
-pub more_stalled : (action n m : ℕ) (stalls : List Stall) → n ≤ m → stalled stalls action n ≤ stalled stalls action m
-more_stalled action n m [] more = omega arith
-more_stalled action n m (s ∷ stalls) more =
-    omega (arith, sum_by-cons (cost action 0 n) s stalls, sum_by-cons (cost action 0 m) s stalls, more_cost action n m s more, more_stalled action n m stalls more)

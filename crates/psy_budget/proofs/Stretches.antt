@@ -3,12 +3,12 @@ use Rattle.std.proofs.Common.{◌≡◌, ℕ, zero, suc, ◌+◌, ◌-◌, ◌<�
 use Rattle.std.specs.Prelude.{◌≢◌}
 use Rattle.std.proofs.lemmas.Bool.{cases_lt}
 use Rattle.std.proofs.lemmas.Bool.Decides.{nat_tests}
+use Rattle.psy_budget.proofs.lemmas.Stalls.{more_stalled}
 use Rattle.psy_budget.specs.declared.charge.Tick.{Tick}
 use Rattle.psy_budget.specs.declared.charge.Tick.TheVariants.{Paid, Stalled, Spent}
 use Rattle.psy_budget.specs.Charges.{Charged, AllGoTo, IsStretch, action_of, stalled, tick_of, after_tick, ticked}
 use Rattle.psy_budget.specs.declared.charge.Charge.TheInside.{Inside}
 use Rattle.psy_budget.specs.Standing.{IsCharge, charged}
-use Rattle.psy_budget.proofs.Splits.{more_stalled}
 
 -- The charge after n cycles that all went to this
 abbrev pub went : Tick → Charged → ℕ → Charged

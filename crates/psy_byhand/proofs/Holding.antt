@@ -12,7 +12,8 @@ use Rattle.psy_code.specs.Execution.{Copy}
 use Rattle.psy_tree.specs.declared.unit.AgentDecl.{AgentDecl}
 use Rattle.psy_tree.specs.declared.unit.Unit.{Unit as Whole}
 use Rattle.psy_tree.specs.Parts.{agent_at}
-use Rattle.psy_history.specs.Executors.{Carried, agent_code_at, cut}
+use Rattle.psy_meaning.specs.CodeWays.{agent_code_at}
+use Rattle.psy_history.specs.Executors.{Carried, cut}
 use Rattle.psy_history.specs.Openings.{FitCells, MayCarry}
 use Rattle.psy_meaning.specs.Alike.{FitSlots, first_copies}
 

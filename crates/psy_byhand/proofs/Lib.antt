@@ -8,7 +8,6 @@ mod LapParts
 mod LapPaths
 mod LapPoints
 mod Names
-mod NoLists
 mod RelayBuffers
 mod RelayFits
 mod RelayPlan

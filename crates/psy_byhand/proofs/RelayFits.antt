@@ -8,7 +8,8 @@ use Rattle.psy_base.specs.declared.limits.TheConstants.{BUDGET, QUANTUM}
 use Rattle.psy_clock.specs.Dates.{IsClock}
 use Rattle.psy_code.specs.Views.{View}
 use Rattle.psy_history.specs.Actions.{timing}
-use Rattle.psy_history.specs.Executors.{Carried, agent_code_at}
+use Rattle.psy_meaning.specs.CodeWays.{agent_code_at}
+use Rattle.psy_history.specs.Executors.{Carried}
 use Rattle.psy_history.specs.Fitting.{FitsBy, IsAgentCodeFor, undisturbed}
 use Rattle.psy_history.specs.Openings.{MayCarry}
 use Rattle.psy_history.specs.Runs.{GoesWell}

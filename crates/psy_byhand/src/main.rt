@@ -13,24 +13,13 @@ use counting::counter;
 use psy_base::{Items, Memory};
 use psy_dates::Plan;
 use psy_door::{Sink, StdSink};
-use psy_history::{Inputs, Script};
+use psy_history::{Script, no_lists};
 use psy_kernel::Kernel;
 use psy_run::run_loop;
 use psy_tree::Unit;
 use relaying::relay;
 use std::alloc::Global;
 use std::process::ExitCode;
-
-// No input has a list.
-fn no_lists(alloc: Global, unit: &Unit) -> Result<Inputs, Memory>
-    ensures { IfOk result (λ inputs. inputs.lists ≡ map (λ v. []) unit.now.variables) }
-{
-    let mut lists = Items::new(alloc);
-    'variables: for _ in unit.variables.as_slice() {
-        lists.push(Items::new(alloc))?;
-    }
-    Ok(Inputs { lists })
-}
 
 // Runs a plan, with neither inputs nor a script.
 fn run<S: Sink>(alloc: Global, plan: Plan, out: &mut S) -> Option<()>

@@ -1,9 +1,10 @@
 -- The values committed up to a date, and the copies that are kept, where they were so for the dates before.
-use Rattle.std.proofs.Common.{◌≡◌, ℕ, ◌+◌, suc, ◌-◌, ◌<◌, ◌≤◌, Bool, true, false, List, [], ◌∷◌, length, Option, Some, None, refl, sym, ap, subst, ◌∙◌, inl, inr, arith}
+use Rattle.std.proofs.Common.{◌≡◌, ℕ, ◌+◌, suc, ◌-◌, ◌≤◌, Bool, true, false, List, [], ◌∷◌, length, Option, Some, None, refl, sym, ap, subst, ◌∙◌, inl, inr, arith}
 use Rattle.std.specs.Prelude.{nat_le, ◌==◌, ◌≢◌, if◌then◌else◌, ℤ}
 use Rattle.std.proofs.lemmas.Bool.{true≢false, cases_Bool, cases_eq, cases_order, cond-true, cond-false, eq-eqb, ne_eqb, le-leb, lt-leb}
+use Rattle.psy_history.proofs.lemmas.Commits.{not_yet}
 use Rattle.psy_history.specs.Actions.{Action, Next, System, Verdict, Done, Trapped, Overran, is_done, next_by, next_of}
-use Rattle.psy_history.specs.Executors.{Carried, copy_in}
+use Rattle.psy_history.specs.Executors.{copy_in}
 use Rattle.psy_history.specs.History.{action_of, history}
 use Rattle.psy_history.specs.Schedule.{Turn, is_pending, units}
 use Rattle.psy_history.specs.Visible.{commit, committed_in}
@@ -17,12 +18,6 @@ use Rattle.psy_dates.proofs.lemmas.Begun.{ends_none, seat_of_last}
 use Rattle.psy_dates.proofs.Histories.{goes_on, is_regular, starts, stays, was_started}
 use Rattle.psy_dates.proofs.Phases.{by_ended, ended_before, of_done}
 use Rattle.psy_dates.proofs.Seats.{acting}
-
--- An action that ends after a date commits nothing by it
-not_yet : (variable date : ℕ) (carried : Carried) (earlier : ℤ) (verdict : Verdict) → ((point end : ℕ) → verdict ≡ Done point end → date < end) → commit variable date carried earlier verdict ≡ earlier
-not_yet variable date carried earlier (Done point end) late = cond-false (nat_le end date) _ _ (lt-leb end date (late point end refl))
-not_yet variable date carried earlier (Trapped kind) late = refl
-not_yet variable date carried earlier Overran late = refl
 
 -- One that was followed had ended by the date at which the next one started
 followed : (s : System) (variable date agent by : ℕ) (n : Next) (r : Action) (before : List Action) (v : Verdict) → r.verdict ≡ v → next_by r.number r.after v ≡ Some n → n.start ≤ by → committed_in s variable by (r ∷ before) ≡ copy_in r.after variable

@@ -1,20 +1,14 @@
 -- The sums of demands by processor, as agent by agent is added.
-use Rattle.std.proofs.Common.{◌≡◌, ◌∙◌, ℕ, ◌+◌, ◌*◌, ◌^◌, ◌<◌, ◌≤◌, Bool, true, false, cond, List, [], length, get_or, slice_index, slice_set, sum_by, eqb, eqb-true, refl, sym, ap, ap₂, subst, add-zero, zero-add, arith}
+use Rattle.std.proofs.Common.{◌≡◌, ◌∙◌, ℕ, ◌+◌, ◌*◌, ◌^◌, ◌<◌, ◌≤◌, Bool, true, false, cond, List, [], length, get_or, slice_index, slice_set, sum_by, eqb, eqb-true, refl, sym, ap, ap₂, subst, add-zero, arith}
 use Rattle.std.specs.List.{range_with_len}
 use Rattle.std.proofs.lemmas.Bool.{eqb-false}
 use Rattle.std.proofs.lemmas.List.{get_or-set_same, get_or-set_other}
-use Rattle.std.proofs.lemmas.List.FromFn.{sum_by-map-range_with_len_more}
-use Rattle.std.proofs.lemmas.List.Sums.{sum-map}
+use Rattle.psy_lists.proofs.lemmas.Ranges.{sum_more}
 use Rattle.psy_demand.specs.Demand.{demand_of}
 
 -- The demand of the first agents on a processor at a length
 abbrev pub first_demand : List (List ℕ) → List ℕ → ℕ → ℕ → ℕ → ℕ
 first_demand lists homes processor within count = sum_by (demand_of lists homes processor within) (range_with_len 0 count)
-
--- The sum of one number more
-sum_more : (f : ℕ → ℕ) (n : ℕ) → sum_by f (range_with_len 0 (n + 1)) ≡ sum_by f (range_with_len 0 n) + f n
-sum_more f n =
-    sym (sum-map f (range_with_len 0 (n + 1))) ∙ sum_by-map-range_with_len_more (λ x. x) f 0 n n (zero-add n) ∙ ap (λ s. s + f n) (sum-map f (range_with_len 0 n))
 
 module _ (lists : List (List ℕ)) (homes : List ℕ) (within agent : ℕ) (sums new : List ℕ) (home cycles : ℕ) (is_home : home ≡ get_or homes agent 0) (is_cycles : cycles ≡ slice_index (get_or lists agent []) within)
     (added : new ≡ slice_set sums home (slice_index sums home + cycles)) (has : home < length sums) where

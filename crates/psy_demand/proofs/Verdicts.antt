@@ -1,8 +1,8 @@
 -- What a verdict by the lists of all agents says of their graphs.
-use Rattle.std.proofs.Common.{◌≡◌, ◌∙◌, ◌↔◌, ℕ, ◌*◌, ◌≤◌, List, zero, suc, [], ◌∷◌, length, slice_get, slice_index, Some, refl, sym, subst, arith}
+use Rattle.std.proofs.Common.{◌≡◌, ◌∙◌, ◌↔◌, ℕ, ◌*◌, ◌≤◌, List, length, slice_index, refl, sym, subst, arith}
 use Rattle.std.proofs.lemmas.List.{length-map}
-use Rattle.psy_base.specs.declared.edge.Edge.{Edge}
 use Rattle.psy_base.specs.Paths.{FitsDueLast, IsGreatestWeight}
+use Rattle.psy_demand.proofs.lemmas.EdgesOf.{edges_at}
 use Rattle.psy_graph.specs.declared.graph.Graph.{Graph}
 use Rattle.psy_meaning.specs.Demand.{AreFeasible, IsDemand, IsOverloadOn, Suffices, edges_on}
 use Rattle.psy_meaning.proofs.lemmas.Demands.{AreGreatest}
@@ -11,12 +11,6 @@ use Rattle.psy_demand.specs.Demand.{IsVerdict, demand}
 use Rattle.psy_demand.specs.declared.demand.Verdict.{Verdict}
 use Rattle.psy_demand.specs.declared.demand.Verdict.TheVariants.{Yes, No}
 use Rattle.psy_demand.proofs.lemmas.OnProcessors.{demand_on, feasible_no_overload_on, overload_on_one}
-
--- The edges by a number are those of a graph.
-edges_at : (graphs : List Graph) (i : ℕ) (edges : List Edge) → slice_get (edges_of graphs) i ≡ Some edges → (graph : Graph) × (slice_get graphs i ≡ Some graph) × (graph.edges ≡ edges)
-edges_at [] i edges at = cc
-edges_at (graph ∷ graphs) zero edges at = (graph, refl, cc)
-edges_at (graph ∷ graphs) (suc i) edges at = edges_at graphs i edges at
 
 -- An overload that has these numbers
 overload_at : (Is : ℕ → ℕ → ℕ → Type 0) (l p d m q e : ℕ) → ◌≡◌ {A = Verdict} (No l p d) (No m q e) → Is l p d → Is m q e

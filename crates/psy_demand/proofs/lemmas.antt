@@ -1,3 +1,4 @@
 -- Lemmas that crates above may cite, by subject.
 pub mod Eaches
+pub mod EdgesOf
 pub mod OnProcessors

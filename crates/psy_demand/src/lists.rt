@@ -1,14 +1,15 @@
 //! The demands of agents over each length, by their action graphs.
-ghost use Rattle.std.specs.Prelude.{◌≡◌, ◌↔◌, ◌++◌, ◌∷◌, ◌*◌, ◌+◌, ◌<◌, [], IfOk, IsTrue, OnOk, length};
+ghost use Rattle.std.specs.Prelude.{◌↔◌, ◌*◌, ◌+◌, ◌<◌, IfOk, IsTrue, length};
 ghost use Rattle.std.specs.List.{All, Any};
 ghost use Rattle.std.specs.Result.{IsErrOf};
 ghost use Rattle.psy_base.specs.declared.limits.TheConstants.{WINDOW_CELLS};
 ghost use Rattle.psy_graph.specs.Graphs.{IsSmall};
 ghost use Rattle.psy_demand.specs.Criterion.{AreEach, AreWeights, IsDrawn, PassesCells};
 
+use psy_base::Items;
 use psy_base::limits::WINDOW_CELLS;
-use psy_base::{Items, Memory};
 use psy_graph::Graph;
+use psy_lists::push;
 use psy_window::{Span, WindowFault, weights};
 use std::alloc::Global;
 
@@ -37,13 +38,6 @@ fn weights_of(alloc: Global, graph: &Graph, top: u32) -> Result<Items<u64>, Wind
 {
     let nodes = graph.nodes.len() as u32;
     weights(alloc, graph.edges.as_slice(), nodes, Span::DueLast, top)
-}
-
-fn push(lists: &mut Items<Items<u64>>, list: Items<u64>) -> Result<(), Memory>
-    ensures { OnOk result (lists.new ≡ lists.old ++ list ∷ []) }
-{
-    lists.push(list)?;
-    Ok(())
 }
 
 /// The demand of each agent over each length from 0 to `top`: the greatest budget of a path of its graph whose last action is due within the

@@ -2,11 +2,10 @@
 use Rattle.std.proofs.Common.{◌≡◌, ℕ, ◌<◌, Bool, true, false, List, [], ◌∷◌, ◌++◌, Option, None, Some, bytes_eq, cond, drop, length, map, get_or, replicate, set, take, refl, sym, ap, subst, ◌∙◌, append-nil, arith}
 use Rattle.std.specs.List.{position}
 use Rattle.std.proofs.lemmas.Bool.{false≢true}
-use Rattle.std.proofs.Math.ListN.{drop_of_length-le}
-use Rattle.std.proofs.Math.Seq.{take-length}
 use Rattle.std.proofs.lemmas.List.{length-map, get_or-replicate, get_or-set_same, get_or-set_other}
 use Rattle.std.proofs.lemmas.List.Quantifiers.{position-Some}
 use Rattle.std.proofs.lemmas.Slice.Eq.{bytes_eq-Decides}
+use Rattle.psy_lists.proofs.lemmas.Places.{written_back}
 use Rattle.psy_draw.specs.Columns.{Dated, Keeps}
 use Rattle.psy_draw.specs.declared.column.Column.{Column}
 use Rattle.psy_draw.specs.ByName.{AddsAt, Each}
@@ -87,12 +86,6 @@ each_added place goes name v names old new k within at adds values each =
     let one : Q name adds.0 = subst (λ more. Keeps place goes (values name ++ more) adds.0) (sym (said_one name v [])) (adds.2 (values name) (each name k at)) in
     subst (Each Q [] names) (sym adds.1) (each_put P Q [] name names old k adds.0 within at each one
     (λ other y apart keeps. added_none place goes values name v other y apart keeps))
-
--- What a slice of a whole vector is written back as
-written_back : {X : Type 0} (old new : List X) (n : ℕ) → n ≡ length old → length new ≡ length old → take n (new ++ drop (length new) old) ≡ new
-written_back old new n all as_many =
-    ap (λ rest. take n (new ++ rest)) (drop_of_length-le old (omega (arith, as_many))) ∙ ap (take n) (append-nil new)
-    ∙ ap (λ k. take k new) (all ∙ sym as_many) ∙ take-length new
 
 -- The same of a slice of all columns
 pub each_added_back : {X : Type 0} (items : X → List Column) (place : ℕ → ℕ) (goes : List Dated → Dated → Bool) (name : List ℕ) (v : Dated) (names : List (List ℕ))

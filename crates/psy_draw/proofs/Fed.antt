@@ -4,8 +4,8 @@ use Rattle.std.specs.List.{count_by, flat_map, list_all, prefix_len, sum_by}
 use Rattle.std.proofs.lemmas.Bool.{false≢true}
 use Rattle.std.proofs.lemmas.Grind.{common_steps}
 use Rattle.std.proofs.lemmas.List.{flat_map_more, take_all, take_more}
-use Rattle.std.proofs.lemmas.List.Folds.{list_all_at}
 use Rattle.std.proofs.lemmas.List.Sums.{sum_by-append}
+use Rattle.psy_lists.proofs.lemmas.Tests.{both}
 use Rattle.psy_log.specs.declared.note.Note.{Note}
 use Rattle.psy_log.specs.declared.note.Note.TheVariants as note
 use Rattle.psy_draw.specs.declared.listed.Listed.{Listed}
@@ -25,10 +25,6 @@ of_all P notes i all p = subst P (take_all i notes all) p
 pub tells_more : {A : Type 0} (f : Note → List A) (notes : List Note) (n : Note) → flat_map f (notes ++ n ∷ []) ≡ flat_map f notes ++ f n
 tells_more f notes n = sym (flat_map_more f [] notes n)
 
--- Both
-pub both : (a b : Bool) → a ≡ true → b ≡ true → (a && b) ≡ true
-both a b p q = ap (λ t. t && b) p ∙ q
-
 -- One more may count.
 pub count_more : {X : Type 0} (p : X → Bool) (xs : List X) (x : X) → count_by p (xs ++ x ∷ []) ≡ count_by p xs + cond (p x) 1 0
 count_more {X} p xs x =
@@ -39,14 +35,6 @@ count_more {X} p xs x =
 -- As far as is counted
 pub count_bounded : (most a b k n whole : ℕ) → a ≡ min b most → whole ≡ b + k → n ≡ min (a + k) most → n ≡ min whole most
 count_bounded most a b k n whole before all now = omega (arith, before, all, now)
-
--- What all of a list are, one of them is.
-pub all_at : {X : Type 0} (p : X → Bool) (xs : List X) (i : ℕ) (d : X) → i < length xs → list_all p xs ≡ true → p (get_or xs i d) ≡ true
-all_at p xs i d within all = by (p (get_or xs i d)) refl
-  where
-    by : (b : Bool) → p (get_or xs i d) ≡ b → p (get_or xs i d) ≡ true
-    by true e = e
-    by false e = absurd (false≢true (sym (list_all_at p xs i d within e) ∙ all))
 
 -- Where none is found that isn't so, all are, and what follows from that.
 all_from_front : {X : Type 0} (q r : X → Bool) → ((x : X) → q x ≡ true → r x ≡ true) → (xs : List X) → nat_lt (prefix_len q xs) (length xs) ≡ false → list_all r xs ≡ true

@@ -17,7 +17,6 @@ mod NameTables
 mod Pictured
 mod Placing
 mod PlainRows
-mod Positions
 mod Refused
 mod Rows
 mod Sayings

@@ -1,19 +1,12 @@
 -- Tables of names.
-use Rattle.std.proofs.Common.{◌≡◌, ℕ, ◌+◌, Bool, true, false, ◌||◌, List, [], ◌∷◌, ◌++◌, map, bytes_eq, cond, not, if◌then◌else◌, refl, sym, ap, ◌∙◌}
-use Rattle.std.specs.List.{list_any, position, prefix_len}
-use Rattle.std.proofs.lemmas.List.{length-map, map-append}
+use Rattle.std.proofs.Common.{◌≡◌, ℕ, ◌+◌, Bool, true, false, ◌||◌, List, [], ◌∷◌, ◌++◌, map, bytes_eq, if◌then◌else◌, refl, sym, ap, ◌∙◌}
+use Rattle.std.specs.List.{list_any}
+use Rattle.std.proofs.lemmas.List.{map-append}
 use Rattle.std.proofs.lemmas.List.Folds.{list_any-append}
 use Rattle.std.proofs.lemmas.Slice.Eq.{bytes_eq-Decides}
 use Rattle.indexmap.specs.IndexSet.{insert_key}
-
--- A test of what is made of each
-pub list_any-map : {X Y : Type 0} (q : Y → Bool) (f : X → Y) (xs : List X) → list_any q (map f xs) ≡ list_any (λ x. q (f x)) xs
-list_any-map q f [] = refl
-list_any-map q f (x ∷ xs) = ap (λ b. q (f x) || b) (list_any-map q f xs)
-
-or_false : (b : Bool) → (b || false) ≡ b
-or_false true = refl
-or_false false = refl
+use Rattle.psy_lists.proofs.lemmas.Searches.{list_any-map}
+use Rattle.psy_lists.proofs.lemmas.Tests.{or_false}
 
 -- A name that is there needn't be added.
 there : (names : List (List ℕ)) (name other : List ℕ) → list_any (bytes_eq name) names ≡ true → list_any (bytes_eq other) names ≡ (list_any (bytes_eq other) names || bytes_eq other name)
@@ -38,12 +31,3 @@ names_inserted {K} now eq same ks new k other e = by (list_any (eq k) ks) refl
     by false f =
         ap (λ xs. list_any (bytes_eq other) (map now xs)) (e ∙ ap (λ b. if b then ks else ks ++ k ∷ []) f)
         ∙ ap (list_any (bytes_eq other)) (map-append now ks (k ∷ [])) ∙ list_any-append (bytes_eq other) (map now ks) (now k ∷ []) ∙ ap (λ b. list_any (bytes_eq other) (map now ks) || b) (or_false (bytes_eq other (now k)))
-
--- The front of what is made of each
-prefix_len-map : {X Y : Type 0} (q : Y → Bool) (f : X → Y) (xs : List X) → prefix_len q (map f xs) ≡ prefix_len (λ x. q (f x)) xs
-prefix_len-map q f [] = refl
-prefix_len-map q f (x ∷ xs) = ap (λ n. cond (q (f x)) (1 + n) 0) (prefix_len-map q f xs)
-
--- A place among what is made of each
-pub position-map : {X Y : Type 0} (q : Y → Bool) (f : X → Y) (xs : List X) → position q (map f xs) ≡ position (λ x. q (f x)) xs
-position-map q f xs = rw (length-map xs f, prefix_len-map (λ y. not (q y)) f xs) refl

@@ -1,5 +1,5 @@
 -- How an export ends, by what was said and written.
-use Rattle.std.proofs.Common.{◌≡◌, ◌≢◌, ◌∙◌, ◌⊎◌, inl, inr, refl, sym, ap, subst, ℕ, List, [], Option, Some, None, Result, Ok, Err}
+use Rattle.std.proofs.Common.{◌≡◌, ◌≢◌, ◌∙◌, ◌⊎◌, inl, inr, refl, sym, ap, subst, ℕ, List, [], Option, Some, None, Ok}
 use Rattle.psy_door.specs.Faults.{Rose}
 use Rattle.psy_door.specs.Files.{Files}
 use Rattle.psy_door.specs.Growth.{Grew, GrewByFront}
@@ -18,10 +18,6 @@ use Rattle.psy_export.specs.declared.forms.Format.TheVariants as format
 use Rattle.psy_export.specs.Ending.{Ends, IsSaidOf, IsUnreadable, MayStand, Refuses, Says, answered, cut_short, left_off, may_answer, may_begin, may_miss, no_memory, status_of, unread}
 use Rattle.psy_export.specs.Exports.{Exports, IsExportFront, export_of, has_many, has_unlisted, no_run, of_log}
 use Rattle.psy_export.specs.Refusals.{unread_line}
-
--- Faults that are the same as errors are the same.
-pub err_is : {A E : Type 0} (some other : E) → ◌≡◌ {A = Result A E} (Err some) (Err other) → some ≡ other
-err_is some other is = cc
 
 -- Nothing is the front of any export.
 pub nothing_front : (to : Format) (files : Option Files) (name : List ℕ) → IsExportFront to files name []

@@ -6,6 +6,7 @@ use Rattle.std.specs.List.{AllPairs, Contains}
 use Rattle.std.proofs.lemmas.Bool.{cases_Bool, cases_lt, eq-eqb, eqb-true}
 use Rattle.std.proofs.lemmas.List.{get_or_past}
 use Rattle.std.proofs.lemmas.Option.{get_or_from_slice_get, none-some, same_Some, slice_get-get_or, slice_get_within}
+use Rattle.psy_lists.proofs.lemmas.Tests.{or_true}
 use Rattle.psy_tree.specs.declared.unit.StreamDecl.{StreamDecl}
 use Rattle.psy_tree.specs.declared.unit.Unit.{Unit as Whole}
 use Rattle.psy_tree.specs.declared.unit.VarDecl.{VarDecl}
@@ -35,10 +36,6 @@ apart_if true r = (λ h. h, tt)
 apart_if false r = tt
 
 -- ---- the texts
-
-or_true : (b : Bool) → (b || true) ≡ true
-or_true true = refl
-or_true false = refl
 
 looked : (variable : ℕ) (pasts : List ℕ) → looks variable pasts ≡ true → Among variable pasts
 looked variable [] e = absurd (true≢false (sym e))

@@ -1,18 +1,7 @@
 -- Notes behind those of a run.
-use Rattle.std.proofs.Common.{◌≡◌, ◌∙◌, ℕ, ◌+◌, ◌<◌, ◌≤◌, Bool, true, false, List, [], ◌∷◌, ◌++◌, append_assoc, get_or, length, refl, sym, ap, subst, take}
-use Rattle.std.specs.List.{list_all}
-use Rattle.std.proofs.lemmas.Bool.{false≢true}
+use Rattle.std.proofs.Common.{◌∙◌, ℕ, ◌+◌, ◌<◌, ◌≤◌, List, [], ◌∷◌, ◌++◌, append_assoc, get_or, length, sym, ap, subst, take}
 use Rattle.std.proofs.lemmas.List.{take_all, take_more}
-use Rattle.std.proofs.lemmas.List.Folds.{list_all_at}
 use Rattle.psy_log.specs.declared.note.Note.{Note}
-
--- What all are, one of them is.
-pub all_at : {X : Type 0} (p : X → Bool) (xs : List X) (i : ℕ) (d : X) → i < length xs → list_all p xs ≡ true → p (get_or xs i d) ≡ true
-all_at p xs i d within all = by (p (get_or xs i d)) refl
-  where
-    by : (b : Bool) → p (get_or xs i d) ≡ b → p (get_or xs i d) ≡ true
-    by true e = e
-    by false e = absurd (false≢true (sym (list_all_at p xs i d within e) ∙ all))
 
 module _ (P : List Note → Type 0) (notes more : List Note) (i : ℕ) where
   -- What holds with one more

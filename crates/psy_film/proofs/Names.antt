@@ -4,6 +4,7 @@ use Rattle.std.specs.Prelude.{fold, if◌then◌else◌}
 use Rattle.std.specs.List.{list_any, position}
 use Rattle.std.proofs.lemmas.List.Folds.{list_any-append}
 use Rattle.std.proofs.lemmas.Slice.Eq.{bytes_eq-Decides}
+use Rattle.psy_lists.proofs.lemmas.Tests.{or_false, or_or}
 use Rattle.psy_door.specs.Files.{Files}
 use Rattle.psy_log.specs.declared.note.Note.{Note}
 use Rattle.psy_log.specs.declared.note.Note.TheVariants as note
@@ -19,14 +20,6 @@ use Rattle.psy_draw.specs.Sayings.{HasSummary}
 use Rattle.psy_film.specs.Films.{IsLogOf}
 
 -- ---- one name more
-
-or_false : (b : Bool) → (b || false) ≡ b
-or_false true = refl
-or_false false = refl
-
-or_or : (a b c : Bool) → ((a || b) || c) ≡ (a || (b || c))
-or_or true b c = refl
-or_or false b c = refl
 
 with_one : (called : List ℕ) (names : List (List ℕ)) (name : List ℕ)
     → list_any (bytes_eq called) (with_name names name) ≡ (list_any (bytes_eq called) names || bytes_eq called name)

@@ -1,9 +1,8 @@
 -- A file that is told is read as one run.
-use Rattle.std.proofs.Common.{◌≡◌, ◌≢◌, ℕ, ◌+◌, ◌≤◌, Bool, true, false, not, bytes_eq, List, [], ◌∷◌, ◌++◌, Option, None, Some, length, length-append, map, append-nil, refl, sym, ap, subst, ◌∙◌, arith}
+use Rattle.std.proofs.Common.{◌≡◌, ◌≢◌, ℕ, ◌+◌, ◌≤◌, List, [], ◌∷◌, ◌++◌, Option, None, Some, length, length-append, map, append-nil, refl, sym, ap, subst, ◌∙◌, arith}
 use Rattle.std.specs.List.{flat_map}
-use Rattle.std.proofs.lemmas.Bool.{false≢true}
 use Rattle.std.proofs.lemmas.List.{length-map}
-use Rattle.std.proofs.lemmas.Slice.Eq.{bytes_eq-Decides}
+use Rattle.psy_lists.proofs.lemmas.Places.{none_left}
 use Rattle.psy_door.specs.Files.{Files}
 use Rattle.psy_log.specs.declared.form.Form.{Form}
 use Rattle.psy_log.specs.declared.form.Form.TheVariants as form
@@ -26,10 +25,6 @@ OneFront = (first : Stand) (text : List ℕ) (notes fronts : List Note) (mid : S
 
 abbrev pub NotBoth : Type 0
 NotBoth = (first : Stand) (text : List ℕ) (notes : List Note) (number : ℕ) → IsText first text notes → BreaksAt first text number → ⊥
-
-none_left : {X : Type 0} (xs : List X) → length xs ≤ 0 → xs ≡ []
-none_left [] few = refl
-none_left (x ∷ xs) few = absurd (omega (arith, few))
 
 -- Two readings of a text say the same.
 one_said : OneFront → (some other : List Note) → IsText run_begins (text_of some) some → IsText run_begins (text_of other) other → text_of some ≡ text_of other
@@ -69,17 +64,6 @@ pub other_tail : OneFront → (files : Option Files) (name : List ℕ) (some oth
     → tail_of some ≢ tail_of other → files ≡ None
 other_tail front files name some other run also differ =
     untold front files name some other run also (λ same. differ (tails_said some ∙ ap (flat_map tail_by) same ∙ sym (tails_said other)))
-
--- Bytes that are told apart differ, and those that aren't are the same.
-pub differ_by : (some other : List ℕ) → true ≡ not (bytes_eq some other) → some ≢ other
-differ_by some other told same = false≢true (sym (told ∙ ap not ((bytes_eq-Decides some other).1 same)))
-
-pub same_by : (some other : List ℕ) → false ≡ not (bytes_eq some other) → some ≡ other
-same_by some other told = (bytes_eq-Decides some other).0 (both (bytes_eq some other) told)
-  where
-    both : (b : Bool) → false ≡ not b → b ≡ true
-    both true is = refl
-    both false is = absurd (false≢true is)
 
 -- ---- no run
 

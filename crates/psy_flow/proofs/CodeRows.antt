@@ -6,7 +6,7 @@ use Rattle.psy_code.specs.declared.code.Code.{Code}
 use Rattle.psy_tree.specs.declared.unit.AgentDecl.{AgentDecl}
 use Rattle.psy_tree.specs.declared.unit.Unit.{Unit as Whole}
 use Rattle.psy_tree.specs.Parts.{agent_at, no_agent}
-use Rattle.psy_meaning.specs.CodeWays.{CanWalk, code_of}
+use Rattle.psy_meaning.specs.CodeWays.{CanWalk, agent_code_at}
 use Rattle.psy_meaning.specs.ListedWays.{AreByPoint, points_of}
 use Rattle.psy_flow.specs.Listed.{AreOf}
 use Rattle.psy_flow.proofs.WayRows.{counts_same}
@@ -19,8 +19,8 @@ by_number {X} unit Are lists count each = record {
 }
 
 -- An agent has as many points in the code as in its program.
-pub same_points : (unit : Whole) (code : Code) → CanWalk unit code → (agent : ℕ) → agent < length code.agents → length (code_of code agent).points ≡ length (agent_at unit agent).points
+pub same_points : (unit : Whole) (code : Code) → CanWalk unit code → (agent : ℕ) → agent < length code.agents → length (agent_code_at code agent).points ≡ length (agent_at unit agent).points
 same_points unit code walk agent less =
-    walk.points agent (agent_at unit agent) (code_of code agent)
+    walk.points agent (agent_at unit agent) (agent_code_at code agent)
     (slice_get-get_or unit.agents agent no_agent (omega (arith, less, walk.agents)))
     (slice_get-get_or code.agents agent _ less)

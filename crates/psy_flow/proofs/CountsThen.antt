@@ -2,6 +2,7 @@
 use Rattle.std.proofs.Common.{◌≡◌, ℕ, zero, suc, ◌+◌, ◌<◌, List, [], ◌∷◌, ◌++◌, map, reverse, drop, length, get_or, Option, Some, refl, sym, ap, subst, ◌∙◌, append_assoc, arith}
 use Rattle.std.specs.Prelude.{slice_get}
 use Rattle.std.proofs.lemmas.List.{map-append, length-map, reverse-append, reverse-reverse}
+use Rattle.psy_lists.proofs.lemmas.Places.{drop_read}
 use Rattle.psy_tree.specs.declared.unit.Expr.{Expr}
 use Rattle.psy_tree.specs.declared.unit.Stmt.{Stmt}
 use Rattle.psy_tree.specs.declared.unit.Stmt.TheVariants as stmt
@@ -14,7 +15,7 @@ use Rattle.psy_flow.specs.Tops.{in_step, falling, behind, and_on, stmt_tops, stm
 use Rattle.psy_flow.proofs.AndOns.{and_on_next}
 use Rattle.psy_flow.proofs.Limits.{behind_is, step_is}
 use Rattle.psy_flow.proofs.PointTops.{and_on-falling, pieces_tops-append, pieces_tops-pieces_of, capped-pieces_of, capped-hop_stmts}
-use Rattle.psy_flow.proofs.Rests.{dropped, rests_advance, rests_if_else, rests_timed, rests_dropped}
+use Rattle.psy_flow.proofs.Rests.{rests_advance, rests_if_else, rests_timed, rests_dropped}
 use Rattle.psy_flow.proofs.Throughs.{and_on-assoc, and_on-first, and_on-last}
 
 module _ (g : Gauge) (wanted : Option ℕ) (calls : ℕ → ℕ) where
@@ -107,7 +108,7 @@ module _ (g : Gauge) (wanted : Option ℕ) (calls : ℕ → ℕ) where
       let after : List Stmt = drop (i + 1) stmts in
       h ∙ and_on_next g (stmt_tops g wanted calls x) next (and_on (whole after) last) e
       ∙ ap cut (sym (and_on-assoc (stmt_tops g wanted calls x) (whole after) last))
-      ∙ ap (λ ss. cut (and_on (whole ss) last)) (sym (dropped stmts i x less is))
+      ∙ ap (λ ss. cut (and_on (whole ss) last)) (sym (drop_read stmts i x less is))
 
   -- ---- by point
 

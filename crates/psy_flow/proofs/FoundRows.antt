@@ -6,6 +6,7 @@ use Rattle.std.proofs.lemmas.Bool.{cases_lt}
 use Rattle.std.proofs.lemmas.List.{get_or_past}
 use Rattle.std.proofs.lemmas.Option.{none-some, same_Some, slice_get-get_or, slice_get_within}
 use Rattle.psy_base.specs.Extremes.{most_of}
+use Rattle.psy_lists.proofs.lemmas.Places.{there}
 use Rattle.psy_code.specs.declared.code.Code.{Code}
 use Rattle.psy_code.specs.declared.instr.Instr.{Instr}
 use Rattle.psy_code.specs.declared.instr.Instr.TheVariants as instr
@@ -23,7 +24,6 @@ use Rattle.psy_flow.specs.Quests.{part_of}
 use Rattle.psy_flow.proofs.CodeEnds.{last_of, way_from}
 use Rattle.psy_flow.proofs.CodeRows.{by_number, same_points}
 use Rattle.psy_flow.proofs.Gathered.{no_bit}
-use Rattle.psy_flow.proofs.Lists.{there}
 use Rattle.psy_flow.proofs.QuestWays.{begins, way_front, way_rest}
 
 -- A cell beyond a row is empty.

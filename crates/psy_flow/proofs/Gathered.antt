@@ -9,12 +9,12 @@ use Rattle.std.proofs.lemmas.List.Sums.{sum_by-set}
 use Rattle.std.proofs.lemmas.Nat.{le_or_l}
 use Rattle.std.proofs.lemmas.Nat.Bits.{bit_at-lt, bit_at-zero, bit_at_or}
 use Rattle.std.proofs.lemmas.Option.{slice_get_within}
+use Rattle.psy_lists.proofs.lemmas.Places.{there}
 use Rattle.psy_code.specs.declared.instr.Instr.{Instr}
 use Rattle.psy_meaning.specs.CodeWays.{GoesOn, IsPassed, first, later}
 use Rattle.psy_flow.specs.Bits.{AreGathered, AreStill, HasBit, HasBitAt, HasBitBehind, IsGathered, bits_from, gathered_at, onward_bits, spare}
 use Rattle.psy_flow.specs.Walks.{onward_of}
 use Rattle.psy_flow.specs.Worths.{cell_of}
-use Rattle.psy_flow.proofs.Lists.{there}
 use Rattle.psy_flow.proofs.Onwards.{goes_if, one_of}
 use Rattle.psy_flow.proofs.QuestWays.{passed_on}
 use Rattle.psy_flow.proofs.WorthCells.{same_or_not}

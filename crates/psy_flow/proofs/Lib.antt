@@ -27,7 +27,6 @@ mod NextPoints
 mod NumbersBelow
 mod OneList
 mod Onwards
-mod Ordered
 mod PartKinds
 mod PassRows
 mod PointTops
@@ -59,3 +58,4 @@ mod WayRows
 mod WaysCounted
 mod WorthCells
 mod WorstCosts
+pub mod lemmas

@@ -1,6 +1,5 @@
 -- Lists with one more of the things that are measured.
-use Rattle.std.proofs.Common.{◌≡◌, ℕ, zero, suc, ◌+◌, ◌<◌, List, [], ◌∷◌, ◌++◌, map, take, length, get_or, Some, refl, ap, ◌∙◌, arith}
-use Rattle.std.specs.Prelude.{slice_get}
+use Rattle.std.proofs.Common.{◌≡◌, ℕ, suc, ◌+◌, ◌<◌, List, [], ◌∷◌, ◌++◌, map, take, length, get_or, ap, ◌∙◌, arith}
 use Rattle.std.proofs.lemmas.List.{take_more, map-append, length-map, length-take-le}
 use Rattle.psy_meaning.specs.Depths.{Depth, shallow, deeper, on_top_of, deepest, stacked}
 use Rattle.psy_tree.specs.Paths.{total}
@@ -43,9 +42,3 @@ total-append (m ∷ ns) n = omega (arith, total-append ns n)
 
 pub total_more : {X : Type 0} (f : X → ℕ) (xs : List X) (i : ℕ) (x : X) → i < length xs → get_or xs i x ≡ x → total (map f (take (i + 1) xs)) ≡ total (map f (take i xs)) + f x
 total_more f xs i x h e = ap total (map_more f xs i x h e) ∙ total-append (map f (take i xs)) (f x)
-
--- There is an element of each number below the length.
-pub there : {X : Type 0} (xs : List X) (i : ℕ) → i < length xs → (x : X) × (slice_get xs i ≡ Some x)
-there [] i h = absurd (omega (arith, h))
-there (x ∷ xs) zero h = (x, refl)
-there (x ∷ xs) (suc i) h = there xs i (omega (arith, h))

@@ -1,18 +1,10 @@
 -- Lists by point of an agent that grow at their ends.
-use Rattle.std.proofs.Common.{◌≡◌, ℕ, ◌<◌, List, [], ◌++◌, append-nil, take, drop, length, get_or, Some, sym, ap, subst, ◌∙◌, arith}
+use Rattle.std.proofs.Common.{◌≡◌, ℕ, ◌<◌, List, [], ◌++◌, length, get_or, Some, sym, subst, ◌∙◌, arith}
 use Rattle.std.specs.Prelude.{replicate, slice_get}
-use Rattle.std.proofs.Math.ListN.{drop_of_length-le}
-use Rattle.std.proofs.Math.Seq.{take-length}
 use Rattle.std.proofs.lemmas.List.{length-replicate, get_or-replicate}
 use Rattle.std.proofs.lemmas.Option.{get_or_from_slice_get, same_Some, slice_get-get_or, slice_get_within}
 use Rattle.psy_tree.specs.declared.unit.AgentDecl.{AgentDecl}
 use Rattle.psy_flow.specs.Listed.{AreLonger, AreOf}
-
--- What a slice of a whole vector is written back as
-pub written_back : {X : Type 0} (old new : List X) (n : ℕ) → n ≡ length old → length new ≡ length old → take n (new ++ drop (length new) old) ≡ new
-written_back old new n all as_many =
-    ap (λ rest. take n (new ++ rest)) (drop_of_length-le old (omega (arith, as_many))) ∙ ap (take n) (append-nil new)
-    ∙ ap (λ k. take k new) (all ∙ sym as_many) ∙ take-length new
 
 module _ {X : Type 0} (agent : AgentDecl) where
   -- Where each list was this, and with what it has more is that

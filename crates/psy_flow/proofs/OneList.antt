@@ -1,5 +1,5 @@
 -- Ways are listed in one form only.
-use Rattle.std.proofs.Common.{◌≡◌, ◌↔◌, ℕ, zero, suc, ◌<◌, ◌≤◌, ◌⊎◌, List, [], ◌∷◌, map, length, get_or, Some, refl, sym, ap, ◌∙◌, inl, inr, arith}
+use Rattle.std.proofs.Common.{◌≡◌, ◌↔◌, ℕ, zero, suc, List, [], ◌∷◌, map, length, Some, sym, ap, ◌∙◌, inl, inr, arith}
 use Rattle.std.specs.Prelude.{slice_get}
 use Rattle.std.specs.List.{AllPairs, Contains}
 use Rattle.std.proofs.lemmas.List.{length-map}
@@ -7,6 +7,10 @@ use Rattle.std.proofs.lemmas.Option.{slice_get-get_or, slice_get_within}
 use Rattle.psy_base.specs.Extremes.{IsMost}
 use Rattle.psy_base.specs.declared.ways.SendWay.{SendWay}
 use Rattle.psy_base.specs.declared.ways.Ways.{Ways}
+use Rattle.psy_flow.proofs.lemmas.Mosts.{no_more}
+use Rattle.psy_flow.proofs.lemmas.OneNexts.{nexts_one, numbers_same}
+use Rattle.psy_lists.proofs.lemmas.Places.{same_lists}
+use Rattle.psy_lists.proofs.lemmas.Ordered.{same_elements}
 use Rattle.psy_code.specs.declared.code.Code.{Code}
 use Rattle.psy_code.specs.declared.instr.Instr.{Instr}
 use Rattle.psy_tree.specs.declared.unit.AgentDecl.{AgentDecl}
@@ -14,18 +18,10 @@ use Rattle.psy_tree.specs.declared.unit.FunctionDecl.{FunctionDecl}
 use Rattle.psy_tree.specs.declared.unit.Unit.{Unit as Whole}
 use Rattle.psy_tree.specs.Parts.{agent_at, no_agent}
 use Rattle.psy_meaning.specs.CodeWays.{AreCodeDelays, AreCodeLooks, AreCodeNexts, AreCodeSends, AreCodeWays, HasCodeDelay, budget_of, place_of}
-use Rattle.psy_meaning.specs.Flow.{AreAllNexts, AreNexts, Rises}
+use Rattle.psy_meaning.specs.Flow.{AreAllNexts}
 use Rattle.psy_meaning.specs.ListedWays.{AreByPoint, AreDelays, AreLooks, AreSends, AreWaysOf, IsWayBefore, points_of}
-use Rattle.psy_flow.proofs.Ordered.{same_elements}
 
 -- ---- lists
-
-same_lists : {X : Type 0} (xs ys : List X) → length xs ≡ length ys → ((i : ℕ) (x y : X) → slice_get xs i ≡ Some x → slice_get ys i ≡ Some y → x ≡ y) → xs ≡ ys
-same_lists [] [] count each = refl
-same_lists [] (y ∷ ys) count each = absurd (omega (arith, count))
-same_lists (x ∷ xs) [] count each = absurd (omega (arith, count))
-same_lists (x ∷ xs) (y ∷ ys) count each =
-    ap (λ z. z ∷ xs) (each zero x y refl refl) ∙ ap (λ zs. y ∷ zs) (same_lists xs ys (omega (arith, count)) (λ i. each (suc i)))
 
 length_at : {X : Type 0} (lists : List (List X)) (i : ℕ) (list : List X) → slice_get lists i ≡ Some list → slice_get (map length lists) i ≡ Some (length list)
 length_at [] i list at = absurd (omega (arith, slice_get_within [] i list at))
@@ -34,12 +30,6 @@ length_at (first ∷ lists) (suc i) list at = length_at lists i list at
 
 same_some : (a b : ℕ) → Some a ≡ Some b → a ≡ b
 same_some a b e = cc
-
-pairs_of_rises : (xs : List ℕ) → Rises xs → AllPairs (λ a b. a < b) xs
-pairs_of_rises xs rise i j d less inside = rise i j (get_or xs i d) (get_or xs j d) less (slice_get-get_or xs i d (omega (arith, less, inside))) (slice_get-get_or xs j d inside)
-
-numbers_same : (xs ys : List ℕ) → Rises xs → Rises ys → ((n : ℕ) → Contains xs n ↔ Contains ys n) → xs ≡ ys
-numbers_same xs ys rise also both = same_elements (λ (a b : ℕ). a < b) (λ a b less more. omega (arith, less, more)) xs ys (pairs_of_rises xs rise) (pairs_of_rises ys also) both
 
 strict : (a b : SendWay) → IsWayBefore a b → IsWayBefore b a → ⊥
 strict a b (inl p) (inl q) = omega (arith, p, q)
@@ -69,11 +59,6 @@ looks_one functions agent point xs ys a b = numbers_same xs ys a.rise b.rise (λ
 
 sends_one : (functions : List FunctionDecl) (agent : AgentDecl) (point : ℕ) (xs ys : List SendWay) → AreSends functions agent point xs → AreSends functions agent point ys → xs ≡ ys
 sends_one functions agent point xs ys a b = sends_same xs ys a.rise b.rise (λ w. ((λ c. (b.each w).1 ((a.each w).0 c)), (λ c. (a.each w).1 ((b.each w).0 c))))
-
-nexts_one : (functions : List FunctionDecl) (agent : AgentDecl) (xs ys : List (List ℕ)) → AreNexts functions agent xs → AreNexts functions agent ys → xs ≡ ys
-nexts_one functions agent xs ys a b =
-    same_lists xs ys (a.length ∙ sym b.length)
-    (λ point x y at also. numbers_same x y (a.rise point x at) (b.rise point y also) (λ n. ((λ c. (b.each point y also n).1 ((a.each point x at n).0 c)), (λ c. (a.each point x at n).1 ((b.each point y also n).0 c)))))
 
 pub all_nexts_one : (unit : Whole) (lists others : List (List (List ℕ))) → AreAllNexts unit lists → AreAllNexts unit others → lists ≡ others
 all_nexts_one unit lists others a b =
@@ -111,10 +96,6 @@ code_looks_one instrs from xs ys a b = numbers_same xs ys a.rise b.rise (λ n. (
 
 code_sends_one : (instrs : List Instr) (from budget : ℕ) (xs ys : List SendWay) → AreCodeSends instrs from budget xs → AreCodeSends instrs from budget ys → xs ≡ ys
 code_sends_one instrs from budget xs ys a b = sends_same xs ys a.rise b.rise (λ w. ((λ c. (b.each w).1 ((a.each w).0 c)), (λ c. (a.each w).1 ((b.each w).0 c))))
-
-no_more : (Has : ℕ → Type 0) (n m : ℕ) → (n ≡ 0) ⊎ Has n → IsMost Has m → n ≤ m
-no_more Has n m (inl e) most = omega (arith, e)
-no_more Has n m (inr has) most = most.all n has
 
 most_one : (Has : ℕ → Type 0) (n m : ℕ) → IsMost Has n → IsMost Has m → n ≡ m
 most_one Has n m a b = omega (arith, no_more Has n m a.one b, no_more Has m n b.one a)

@@ -7,12 +7,13 @@ use Rattle.std.proofs.lemmas.List.{get_or_default}
 use Rattle.std.proofs.lemmas.List.Elements.{Contains-get_or}
 use Rattle.std.proofs.lemmas.List.Sorted.{Contains-permutation, IsPermutation-sym}
 use Rattle.std.specs.List.Sorted.{IsPermutation}
+use Rattle.psy_lists.proofs.lemmas.Tests.{or_right}
+use Rattle.psy_lists.proofs.lemmas.Places.{there}
 use Rattle.psy_code.specs.declared.instr.Instr.{Instr}
 use Rattle.psy_meaning.specs.CodeWays.{later}
 use Rattle.psy_flow.specs.declared.quests.Quest.{Quest}
 use Rattle.psy_flow.specs.Walks.{ArePassed, MayFollow, StaysIn}
 use Rattle.psy_flow.specs.Worths.{AreFound, AreSettled, AreSmall, best_at, room_of, worth_at}
-use Rattle.psy_flow.proofs.Lists.{there}
 use Rattle.psy_flow.proofs.WorthCells.{IsRaised, best_small, raised_found, raised_small, same_or_not}
 
 -- The cells of a row when so many places were visited.
@@ -27,10 +28,6 @@ pub record IsPassing (quest : Quest) (instrs : List Instr) (places : List ℕ) (
 or_left : (a b : Bool) → (a || b) ≡ false → a ≡ false
 or_left true b h = h
 or_left false b h = refl
-
-or_right : (a b : Bool) → (a || b) ≡ false → b ≡ false
-or_right true b h = absurd (false≢true (sym h))
-or_right false b h = h
 
 module _ (quest : Quest) (instrs : List Instr) (from : ℕ) (places : List ℕ) (most : ℕ) (are : ArePassed instrs from places) where
   may_follow : (place : ℕ) → Contains places place → MayFollow instrs places place

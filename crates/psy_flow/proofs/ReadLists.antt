@@ -3,11 +3,15 @@ use Rattle.std.proofs.Common.{◌≡◌, ◌↔◌, ◌⊎◌, ℕ, zero, suc, �
 use Rattle.std.specs.List.{Contains, count_by, flat_map, list_any}
 use Rattle.std.proofs.lemmas.Bool.{cases_Bool, cases_lt, eqb-true, false≢true}
 use Rattle.std.proofs.lemmas.List.{ext_get_or, get_or-map, get_or_default, length-map}
-use Rattle.std.proofs.lemmas.List.Elements.{All-contains, All-contains_itself, All-filter, Contains-append_cases, Contains-get_or, filter_passes}
+use Rattle.std.proofs.lemmas.List.Elements.{Contains-append_cases, Contains-get_or}
 use Rattle.std.proofs.lemmas.List.Folds.{Any-from_list_any, list_any_at}
 use Rattle.std.proofs.lemmas.Nat.{mul-le}
 use Rattle.std.proofs.lemmas.Option.{slice_get-get_or}
 use Rattle.psy_base.specs.declared.limits.TheConstants.{AFTER, SENDS}
+use Rattle.psy_meaning.proofs.lemmas.SomeSendings.{some_here}
+use Rattle.psy_lists.proofs.lemmas.Searches.{some_pass}
+use Rattle.psy_lists.proofs.lemmas.Tests.{each_of_both}
+use Rattle.psy_lists.proofs.lemmas.Members.{map_contains, filter_from}
 use Rattle.psy_clock.specs.declared.clock.TheConstants.{PERIOD}
 use Rattle.psy_base.specs.declared.ways.SendWay.{SendWay}
 use Rattle.psy_base.specs.declared.ways.Ways.{Ways as WayLists}
@@ -25,7 +29,7 @@ use Rattle.psy_meaning.specs.Ways.{IsWay, Meter, Sending}
 use Rattle.psy_meaning.proofs.lemmas.ByPoint.{agents_count, at_point, by_point, points_count}
 use Rattle.psy_flow.specs.Agents.{IsKnown}
 use Rattle.psy_flow.specs.Readings.{AreAlike}
-use Rattle.psy_flow.proofs.Silent.{counted, counts}
+use Rattle.psy_flow.proofs.Silent.{counted}
 
 -- ---- tests
 
@@ -59,10 +63,6 @@ any_alike p q (x ∷ xs) (y ∷ ys) d e count each =
 
 -- ---- sends of a text
 
-some_here : (sendings : List Sending) (s : Sending) → Contains sendings s → is_some_sending sendings ≡ true
-some_here [] s (k, less, is) = absurd (omega (arith, less))
-some_here (x ∷ xs) s c = refl
-
 some_found : (sendings : List Sending) → is_some_sending sendings ≡ true → (s : Sending) × Contains sendings s
 some_found [] h = absurd cc
 some_found (s ∷ more) h = (s, (0, omega arith, refl))
@@ -85,13 +85,6 @@ kept p (y ∷ xs) x h (suc k, less, is) = elim (cases_Bool (p y)) [
   | inr fails ↦ rw fails (kept p xs x h (k, omega (arith, less), is))
 ]
 
--- What is kept is of the list, and passes.
-filtered : {X : Type 0} (p : X → Bool) (xs : List X) (x : X) → Contains (filter p xs) x → Contains xs x × (p x ≡ true)
-filtered p xs x c = (
-  All-contains (Contains xs) (filter p xs) x (All-filter p (Contains xs) xs (All-contains_itself xs)) c,
-  All-contains (λ y. p y ≡ true) (filter p xs) x (filter_passes p xs) c,
-)
-
 -- ---- the most sends in a list
 
 -- A way of the list tells it, or there is none.
@@ -99,10 +92,6 @@ abbrev Told : List SendWay → ℕ → ℕ → Type 0
 Told list to stream =
     ((way : SendWay) × Contains list way × (way.to ≡ to) × (way.stream ≡ stream) × (way.most ≡ most_in list to stream))
     ⊎ (((way : SendWay) → Contains list way → way.to ≡ to → way.stream ≡ stream → ⊥) × (most_in list to stream ≡ 0))
-
-both_tests : (a b : Bool) → (a && b) ≡ true → (a ≡ true) × (b ≡ true)
-both_tests true b h = (refl, h)
-both_tests false b h = absurd (false≢true h)
 
 is_way : (w : SendWay) (to stream : ℕ) → w.to ≡ to → w.stream ≡ stream → (w.to == to && w.stream == stream) ≡ true
 is_way w to stream a b = ap (λ t. t && w.stream == stream) (is_number w.to to a) ∙ is_number w.stream stream b
@@ -115,7 +104,7 @@ not_among w ws to stream fails none way (suc k, less, is) a b = none way (k, ome
 most_told : (list : List SendWay) (to stream : ℕ) → Told list to stream
 most_told [] to stream = inr ((λ way (k, less, is) a b. omega (arith, less)), refl)
 most_told (w ∷ ws) to stream = elim (cases_Bool (w.to == to && w.stream == stream)) [
-  | inl passes ↦ rw passes (let (a, b) = both_tests (w.to == to) (w.stream == stream) passes in inl (w, (0, omega arith, refl), same_numbers w.to to a, same_numbers w.stream stream b, refl))
+  | inl passes ↦ rw passes (let (a, b) = each_of_both (w.to == to) (w.stream == stream) passes in inl (w, (0, omega arith, refl), same_numbers w.to to a, same_numbers w.stream stream b, refl))
   | inr fails ↦ rw fails (elim (most_told ws to stream) [
     | inl (way, (k, less, is), a, b, same) ↦ inl (way, (suc k, omega (arith, less), is), a, b, same)
     | inr (none, same) ↦ inr (not_among w ws to stream fails none, same)
@@ -130,11 +119,6 @@ most_below (n ∷ numbers) limit each =
     let first = each n (0, omega arith, refl) in
     let others = most_below numbers limit (λ m (k, less, is). each m (suc k, omega (arith, less), is)) in
     omega (arith, first, others)
-
-map_found : {X Y : Type 0} (f : X → Y) (xs : List X) (y : Y) → Contains (map f xs) y → (x : X) × Contains xs x × (f x ≡ y)
-map_found f [] y (k, less, is) = absurd (omega (arith, less))
-map_found f (x ∷ xs) y (zero, less, is) = (x, (0, omega arith, refl), is)
-map_found f (x ∷ xs) y (suc k, less, is) = let (z, (i, inside, at), same) = map_found f xs y (k, omega (arith, less), is) in (z, (suc i, omega (arith, inside), at), same)
 
 flat_found : {X Y : Type 0} (f : X → List Y) (xs : List X) (y : Y) (d : X) → Contains (flat_map f xs) y → (k : ℕ) × (k < length xs) × Contains (f (get_or xs k d)) y
 flat_found f [] y d (k, less, is) = absurd (omega (arith, less))
@@ -166,7 +150,7 @@ pub record AreFacts (unit : Whole) : Type 0 where
 pub stream_there : (unit : Whole) (facts : AreFacts unit) (agent stream : ℕ) → agent < length unit.agents → sends_to (OfText unit) agent stream ≡ true → stream < length unit.streams
 stream_there unit facts agent stream less h =
     let (s, c) = some_found (sendings_to stream (agent_at unit agent)) h in
-    let (there, passes) = filtered (λ (x : Sending). x.stream == stream) (sendings_in (agent_at unit agent).stmts) s c in
+    let (there, passes) = filter_from (λ (x : Sending). x.stream == stream) (sendings_in (agent_at unit agent).stmts) s c in
     let (from, to, met, inside, way, on) = facts.meets agent s less there in
     let (known, clock, after) = facts.sends agent from to met s less way on in
     let same = same_numbers s.stream stream passes in
@@ -209,7 +193,7 @@ module _ (unit : Whole) (facts : AreFacts unit) (ways : WayLists) (are : AreWays
     some_sent : (from to stream : ℕ) (met : Meter) (s : Sending) (n : ℕ) → IsWay unit.functions (rest its.stmts from) to met → Contains met.sends s → s.stream ≡ stream → IsMostSends unit.functions its from to stream n → 1 ≤ n
     some_sent from to stream met s n way c same (inl (none, is)) = absurd (none (met, way))
     some_sent from to stream met s n way (k, within, is) same (inr (m, greatest, cut)) =
-        let many = counts (λ (x : Sending). x.stream == stream) met.sends s k within is (is_number s.stream stream same) in
+        let many = some_pass (λ (x : Sending). x.stream == stream) met.sends s k within is (is_number s.stream stream same) in
         let most = greatest.most (count_by (λ (x : Sending). x.stream == stream) met.sends) (met, way, refl) in
         omega (arith, many, most, cut)
 
@@ -222,7 +206,7 @@ module _ (unit : Whole) (facts : AreFacts unit) (ways : WayLists) (are : AreWays
     text_listed : (stream : ℕ) → sends_to (OfText unit) agent stream ≡ true → any_to stream lists ≡ true
     text_listed stream h =
         let (s, c) = some_found (sendings_to stream its) h in
-        let (there, passes) = filtered (λ (x : Sending). x.stream == stream) (sendings_in its.stmts) s c in
+        let (there, passes) = filter_from (λ (x : Sending). x.stream == stream) (sendings_in its.stmts) s c in
         let (from, to, met, inside, way, on) = facts.meets agent s less there in
         let (n, is) = facts.some agent from to stream less in
         let some = some_sent from to stream met s n way on (same_numbers s.stream stream passes) is in
@@ -332,7 +316,7 @@ module _ (unit : Whole) (facts : AreFacts unit) (ways : WayLists) (are : AreWays
   delay_small : (agent stream : ℕ) (s : Sending) → agent < length unit.agents → Contains (sendings_to stream (agent_at unit agent)) s → delay_of unit s ≤ LONGEST
   delay_small agent stream s less c =
       let its = agent_at unit agent in
-      let (there, passes) = filtered (λ (x : Sending). x.stream == stream) (sendings_in its.stmts) s c in
+      let (there, passes) = filter_from (λ (x : Sending). x.stream == stream) (sendings_in its.stmts) s c in
       let (from, to, met, inside, way, on) = facts.meets agent s less there in
       let (known, clock, after) = facts.sends agent from to met s less way on in
       let period : period_of unit s.clock ≤ PERIOD = (facts.text.bare.clocks s.clock no_clock clock).period in
@@ -341,7 +325,7 @@ module _ (unit : Whole) (facts : AreFacts unit) (ways : WayLists) (are : AreWays
 
   delay_for : (stream : ℕ) → longest_delay unit stream ≤ LONGEST
   delay_for stream = most_below (map (delay_of unit) (all_sendings unit stream)) LONGEST (λ n c.
-      let (s, there, same) = map_found (delay_of unit) (all_sendings unit stream) n c in
+      let (s, there, same) = map_contains (delay_of unit) (all_sendings unit stream) n c in
       let (k, less, its) = flat_found (sendings_to stream) unit.agents s no_agent there in
       let small = delay_small k stream s less its in
       omega (arith, small, same))

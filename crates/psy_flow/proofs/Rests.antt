@@ -1,24 +1,16 @@
 -- The rests of statements, by number.
-use Rattle.std.proofs.Common.{◌≡◌, ℕ, zero, suc, ◌+◌, ◌-◌, ◌<◌, List, [], ◌∷◌, ◌++◌, map, take, drop, length, get_or, Some, None, refl, sym, ap, ◌∙◌, arith}
-use Rattle.std.proofs.Math.Seq.{drop-cons}
+use Rattle.std.proofs.Common.{◌≡◌, ℕ, zero, suc, ◌+◌, ◌-◌, ◌<◌, List, [], ◌∷◌, ◌++◌, take, drop, length, get_or, Some, None, refl, sym, ap, ◌∙◌, arith}
 use Rattle.std.proofs.lemmas.List.{length-drop, take_all, get_or-append-add}
+use Rattle.psy_meaning.proofs.lemmas.RestPieces.{stmts_are}
+use Rattle.psy_lists.proofs.lemmas.Places.{drop_read}
 use Rattle.psy_tree.specs.declared.unit.Expr.{Expr}
 use Rattle.psy_tree.specs.declared.unit.Stmt.{Stmt, para-roll-Stmt, roll-Stmt}
 use Rattle.psy_tree.specs.declared.unit.Stmt.TheVariants as stmt
 use Rattle.psy_tree.specs.declared.unit.Stmt.TheOpen.{Stmt-F}
 use Rattle.psy_meaning.specs.Statements.{Piece, Do, Hop}
-use Rattle.psy_meaning.specs.Rest.{Rests, each_then, pieces_of, stmts_in, rests_step, rests_of, with_rests, rests_of_list}
-
-pub dropped : {X : Type 0} (xs : List X) (i : ℕ) (x : X) → i < length xs → x ≡ get_or xs i x → drop i xs ≡ x ∷ drop (i + 1) xs
-dropped xs i x h e =
-    let next : suc i ≡ i + 1 = omega arith in
-    drop-cons xs i x h ∙ ap (λ n. get_or xs i x ∷ drop n xs) next ∙ ap (λ y. y ∷ drop (i + 1) xs) (sym e)
+use Rattle.psy_meaning.specs.Rest.{Rests, each_then, pieces_of, rests_step, rests_of, rests_of_list}
 
 -- ---- the rests of each statement
-
-firsts : (stmts : List Stmt) → stmts_in (map with_rests stmts) ≡ stmts
-firsts [] = refl
-firsts (x ∷ xs) = ap (λ r. x ∷ r) (firsts xs)
 
 pub rests_advance : (point : ℕ) → rests_of (stmt.Advance point) ≡ [] ∷ []
 rests_advance point = ap rests_of (sym (stmt.rolls-Advance point)) ∙ para-roll-Stmt Rests rests_step (Stmt-F.Advance point)
@@ -35,7 +27,7 @@ rests_bounded test most body = ap rests_of (sym (stmt.rolls-Bounded test most bo
 pub rests_timed : (test : Expr) (body : List Stmt) → rests_of (stmt.Timed test body) ≡ each_then (rests_of_list body) (Hop ∷ Do (stmt.Timed test body) ∷ [])
 rests_timed test body =
     ap rests_of (sym (stmt.rolls-Timed test body)) ∙ para-roll-Stmt Rests rests_step (Stmt-F.Timed test body)
-    ∙ ap (λ ss. each_then (rests_of_list body) (Hop ∷ Do (roll-Stmt (Stmt-F.Timed test ss)) ∷ [])) (firsts body)
+    ∙ ap (λ ss. each_then (rests_of_list body) (Hop ∷ Do (roll-Stmt (Stmt-F.Timed test ss)) ∷ [])) (stmts_are body)
     ∙ ap (λ t. each_then (rests_of_list body) (Hop ∷ Do t ∷ [])) (stmt.rolls-Timed test body)
 
 pub whole_rest : {X : Type 0} (xs : List X) (k : ℕ) → take (length xs - k) (drop k xs) ≡ drop k xs
@@ -44,8 +36,8 @@ whole_rest xs k = take_all (length xs - k) (drop k xs) (omega (arith, length-dro
 pub rests_dropped : (stmts : List Stmt) (i : ℕ) (x : Stmt) → i < length stmts → x ≡ get_or stmts i x →
     rests_of_list (drop i stmts) ≡ each_then (rests_of x) (pieces_of (drop (i + 1) stmts)) ++ rests_of_list (drop (i + 1) stmts)
 rests_dropped stmts i x h e =
-    ap rests_of_list (dropped stmts i x h e)
-    ∙ ap (λ ss. each_then (rests_of x) (pieces_of ss) ++ rests_of_list (drop (i + 1) stmts)) (firsts (drop (i + 1) stmts))
+    ap rests_of_list (drop_read stmts i x h e)
+    ∙ ap (λ ss. each_then (rests_of x) (pieces_of ss) ++ rests_of_list (drop (i + 1) stmts)) (stmts_are (drop (i + 1) stmts))
 
 -- ---- a rest by its number
 

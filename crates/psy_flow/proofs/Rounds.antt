@@ -7,6 +7,7 @@ use Rattle.std.proofs.lemmas.List.{get_or_default}
 use Rattle.std.proofs.lemmas.List.Sums.{length-filter}
 use Rattle.std.proofs.lemmas.Map.Keys.{IsDistinct-cons}
 use Rattle.std.proofs.lemmas.Map.Steps.{length-le_from_distinct_below}
+use Rattle.psy_lists.proofs.lemmas.Tests.{or_right}
 use Rattle.psy_code.specs.declared.instr.Instr.{Instr}
 use Rattle.psy_meaning.specs.CodeWays.{GoesOn, IsPassed, IsUnbounded, first, later}
 use Rattle.psy_flow.specs.declared.quests.Quest.{Quest}
@@ -27,10 +28,6 @@ differs k (y ∷ ys) e = (or_left (eqb k y) (list_any (eqb k) ys) e, differs k y
     or_left : (a b : Bool) → (a || b) ≡ false → a ≡ false
     or_left true b h = h
     or_left false b h = refl
-
-    or_right : (a b : Bool) → (a || b) ≡ false → b ≡ false
-    or_right true b h = absurd (false≢true (sym h))
-    or_right false b h = h
 
 distinct_more : (k : ℕ) (ks : List ℕ) → list_any (eqb k) ks ≡ false → IsDistinct eqb ks → IsDistinct eqb (k ∷ ks)
 distinct_more k ks new distinct = IsDistinct-cons eqb k ks (differs k ks new) distinct

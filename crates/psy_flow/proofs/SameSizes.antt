@@ -1,10 +1,11 @@
 -- Sizes by readings of a program's ways that say the same are the same.
-use Rattle.std.proofs.Common.{◌≡◌, ℕ, zero, suc, ◌+◌, ◌-◌, ◌<◌, ◌≤◌, Bool, true, false, List, [], ◌∷◌, length, get_or, Some, refl, sym, ap, subst, ◌∙◌, inl, inr, arith}
+use Rattle.std.proofs.Common.{◌≡◌, ℕ, zero, suc, ◌+◌, ◌-◌, ◌<◌, ◌≤◌, Bool, true, false, List, [], length, get_or, Some, sym, ap, subst, ◌∙◌, inl, inr, arith}
 use Rattle.std.specs.Prelude.{slice_get}
 use Rattle.std.specs.List.{Contains}
 use Rattle.std.proofs.lemmas.Option.{get_or_from_slice_get, slice_get-get_or, slice_get_within}
 use Rattle.psy_base.specs.Extremes.{IsGreatest}
 use Rattle.psy_base.specs.declared.edge.Edge.{Edge}
+use Rattle.psy_lists.proofs.lemmas.Places.{listed_at}
 use Rattle.psy_tree.specs.declared.unit.Unit.{Unit as Whole}
 use Rattle.psy_tree.specs.Parts.{agent_at, no_agent}
 use Rattle.psy_meaning.specs.Flow.{AreAllNexts, AreNexts}
@@ -26,12 +27,6 @@ alike_back unit ways others a = record {
   delays = λ stream less. sym (a.delays stream less);
 }
 
--- What follows a point stands in the list of some point.
-listed : (nexts : List (List ℕ)) (point to : ℕ) → Contains (get_or nexts point []) to → slice_get nexts point ≡ Some (get_or nexts point [])
-listed [] point to (k, less, is) = absurd (omega (arith, less))
-listed (list ∷ nexts) zero to c = refl
-listed (list ∷ nexts) (suc point) to c = listed nexts point to c
-
 module _ (unit : Whole) (nexts : List (List (List ℕ))) (are : AreAllNexts unit nexts) (known : (agent : ℕ) → agent < length unit.agents → IsKnown unit agent (agent_at unit agent)) where
   -- Actions start at points that there are.
   starts_within : (agent : ℕ) → agent < length unit.agents → (point start : ℕ) → MayStart (agent_timing unit nexts agent) point start → point < length (agent_at unit agent).points
@@ -43,7 +38,7 @@ module _ (unit : Whole) (nexts : List (List (List ℕ))) (are : AreAllNexts unit
       let list = get_or nexts agent [] in
       let own : AreNexts unit.functions (agent_at unit agent) list =
       are.each agent (agent_at unit agent) list (slice_get-get_or unit.agents agent no_agent less) (slice_get-get_or nexts agent [] (omega (arith, less, are.count))) in
-      ((known agent less).inner from point ((own.each from (get_or list from []) (listed list from point follows) point).0 follows)).1
+      ((known agent less).inner from point ((own.each from (get_or list from []) (listed_at list from point follows) point).0 follows)).1
 
   spot_within : (agent : ℕ) → agent < length unit.agents → (spots : List Spot) (edges : List Edge) → IsGraph (agent_timing unit nexts agent) spots edges → (place : ℕ) (spot : Spot) → slice_get spots place ≡ Some spot
       → spot.point < length (agent_at unit agent).points

@@ -1,9 +1,10 @@
 -- Sends and looks of an agent's ways, where its functions neither send nor look.
-use Rattle.std.proofs.Common.{◌≡◌, ℕ, zero, suc, ◌<◌, min, Bool, true, false, cond, List, [], ◌∷◌, length, get_or, Option, Some, None, refl, sym, ap, subst, ◌∙◌, inl, inr, arith}
+use Rattle.std.proofs.Common.{◌≡◌, ℕ, suc, ◌<◌, min, Bool, true, false, cond, List, [], ◌∷◌, Option, Some, None, refl, sym, ap, subst, inl, inr, arith}
 use Rattle.std.specs.Prelude.{◌==◌, ◌↔◌, ◌⊎◌, nat_lt, unwrap_or}
 use Rattle.std.specs.List.{count_by, Contains}
 use Rattle.std.proofs.lemmas.Bool.{false≢true}
 use Rattle.std.proofs.lemmas.List.Sums.{sum_by-cons}
+use Rattle.psy_lists.proofs.lemmas.Searches.{some_pass}
 use Rattle.psy_code.specs.Views.{Looked}
 use Rattle.psy_tree.specs.declared.unit.AgentDecl.{AgentDecl}
 use Rattle.psy_tree.specs.declared.unit.FunctionDecl.{FunctionDecl}
@@ -52,11 +53,6 @@ pub counted : {X : Type 0} (p : X → Bool) (xs : List X) → 0 < count_by p xs 
 counted p [] h = absurd (omega (arith, h))
 counted p (x ∷ xs) h = counted_at p x xs (p x) refl h (counted p xs)
 
-pub counts : {X : Type 0} (p : X → Bool) (xs : List X) (x : X) (i : ℕ) → i < length xs → get_or xs i x ≡ x → p x ≡ true → 0 < count_by p xs
-counts p [] x i l e h = absurd (omega (arith, l))
-counts p (y ∷ xs) x zero l e h = omega (arith, sum_by-cons (λ y. cond (p y) 1 0) y xs, ap {B = ℕ} (λ b. cond b 1 0) (ap p e ∙ h))
-counts p (y ∷ xs) x (suc i) l e h = omega (arith, sum_by-cons (λ y. cond (p y) 1 0) y xs, counts p xs x i (omega (arith, l)) e h)
-
 module _ (unit : Whole) (number : ℕ) (agent : AgentDecl) (its : IsKnown unit number agent) (point : ℕ) where
   abbrev calls : (g : Gauge) → Counts g → IsRow g unit.functions (called [])
   calls g same = silent_row g unit.functions its.none (still_calls unit.functions its.sound.functions) same
@@ -98,7 +94,7 @@ module _ (unit : Whole) (number : ℕ) (agent : AgentDecl) (its : IsKnown unit n
     (λ h. let (look, c, is) = counted (λ (l : Looked). l.variable == variable) met.looks (let more : 0 < n = grind (arith, h) in omega (arith, more, same)) in (to, met, way, look, c, grind (arith, is))),
     (λ may. let (to', met', way', look, c, is) = may in
         let asks : (look.variable == variable) ≡ true = grind (arith, is) in
-        let more = counts (λ (l : Looked). l.variable == variable) met'.looks look c.0 c.1 c.2 asks in
+        let more = some_pass (λ (l : Looked). l.variable == variable) met'.looks look c.0 c.1 c.2 asks in
         let some : 0 < min n 1 = omega (arith, more, most to' met' refl way') in
         grind (arith, some)),
   )

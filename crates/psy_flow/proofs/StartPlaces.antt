@@ -4,7 +4,7 @@ use Rattle.std.specs.List.{Contains}
 use Rattle.std.proofs.lemmas.Bool.{cases_lt}
 use Rattle.std.proofs.lemmas.List.Elements.{Contains-append_left, Contains-push, Contains-push_cases}
 use Rattle.psy_code.specs.declared.code.Code.{Code}
-use Rattle.psy_meaning.specs.CodeWays.{code_of, place_of}
+use Rattle.psy_meaning.specs.CodeWays.{agent_code_at, place_of}
 use Rattle.psy_flow.specs.CodeLists.{AreStarts, AreStartsUpTo, IsPointPlace}
 
 module _ (code : Code) where
@@ -33,7 +33,7 @@ module _ (code : Code) where
     ]),
   )
 
-  pub next_agent : (agent : ℕ) (starts : List ℕ) → AreStartsUpTo code agent (length (code_of code agent).points) starts → AreStartsUpTo code (agent + 1) 0 starts
+  pub next_agent : (agent : ℕ) (starts : List ℕ) → AreStartsUpTo code agent (length (agent_code_at code agent).points) starts → AreStartsUpTo code (agent + 1) 0 starts
   next_agent agent starts kept place = (
     (λ c. elim ((kept place).0 c) [
       | inl (a, less, at) ↦ inl (a, omega (arith, less), at)

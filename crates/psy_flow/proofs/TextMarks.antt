@@ -1,5 +1,5 @@
 -- Marks of the numbers that a text names.
-use Rattle.std.proofs.Common.{◌≡◌, ℕ, zero, suc, ◌+◌, ◌<◌, Bool, true, false, List, [], ◌∷◌, ◌++◌, map, take, length, get_or, append-nil, append_assoc, refl, sym, ap, ◌∙◌, arith, Some, None}
+use Rattle.std.proofs.Common.{◌≡◌, ℕ, ◌+◌, ◌<◌, Bool, true, false, List, [], ◌∷◌, ◌++◌, map, take, length, get_or, append-nil, append_assoc, refl, sym, ap, ◌∙◌, arith, Some, None}
 use Rattle.std.specs.Prelude.{nat_eq, replicate, slice_get}
 use Rattle.std.specs.List.{Contains, list_any}
 use Rattle.std.proofs.lemmas.Bool.{false≢true}
@@ -79,14 +79,6 @@ streams_if_else test branch other =
     ap stmt_streams (sym (stmt.rolls-If test branch (Some other)))
     ∙ ap (map stream) (fold-roll-Stmt (List Sending) sendings_step (Stmt-F.If test branch (Some other)))
     ∙ map-append stream (sendings_in branch) (sendings_in other)
-
--- What comes of one of them is among what comes of all.
-pub contains_mapped : {X Y : Type 0} (f : X → Y) (xs : List X) (x : X) → Contains xs x → Contains (map f xs) (f x)
-contains_mapped f [] x (k, less, is) = absurd (omega (arith, less))
-contains_mapped f (y ∷ ys) x (zero, less, is) = (0, omega arith, ap f is)
-contains_mapped f (y ∷ ys) x (suc k, less, is) =
-    let (i, inside, same) = contains_mapped f ys x (k, omega (arith, less), is) in
-    (suc i, omega (arith, inside), same)
 
 -- ---- what isn't marked
 

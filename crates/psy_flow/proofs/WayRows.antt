@@ -1,9 +1,10 @@
 -- The lists of ways, by point of an agent and by agent, while they grow.
-use Rattle.std.proofs.Common.{◌≡◌, ◌↔◌, ℕ, zero, suc, ◌<◌, List, [], ◌∷◌, ◌++◌, map, length, get_or, Some, refl, sym, ap, subst, ◌∙◌, arith}
+use Rattle.std.proofs.Common.{◌≡◌, ◌↔◌, ℕ, zero, suc, List, [], ◌∷◌, ◌++◌, map, length, Some, refl, sym, ap, subst, ◌∙◌, arith}
 use Rattle.std.specs.Prelude.{slice_get}
 use Rattle.std.specs.List.{Contains}
 use Rattle.std.proofs.lemmas.Option.{slice_get-get_or, slice_get_within}
 use Rattle.psy_base.specs.declared.ways.SendWay.{SendWay}
+use Rattle.psy_lists.proofs.lemmas.Places.{each_pushed}
 use Rattle.psy_tree.specs.declared.unit.AgentDecl.{AgentDecl}
 use Rattle.psy_tree.specs.declared.unit.Unit.{Unit as Whole}
 use Rattle.psy_tree.specs.Parts.{agent_at, no_agent}
@@ -14,20 +15,10 @@ use Rattle.psy_flow.specs.Listed.{AreOf}
 
 -- ---- lists
 
-pub each_pushed : {X : Type 0} (P : ℕ → X → Type 0) (xs : List X) (x : X) → ((i : ℕ) (y : X) → slice_get xs i ≡ Some y → P i y) → P (length xs) x → (i : ℕ) (y : X) → slice_get (xs ++ x ∷ []) i ≡ Some y → P i y
-each_pushed P [] x each last zero y at = let same : x ≡ y = cc in subst (P 0) same last
-each_pushed P [] x each last (suc i) y at = cc
-each_pushed P (z ∷ xs) x each last zero y at = each zero y at
-each_pushed P (z ∷ xs) x each last (suc i) y at = each_pushed (λ j. P (suc j)) xs x (λ j. each (suc j)) last i y at
-
 -- The same for the list that came of it, where so many stood in it
 pub each_after : {X : Type 0} (P : ℕ → X → Type 0) (xs ys : List X) (x : X) (n : ℕ) → ys ≡ xs ++ x ∷ [] → length xs ≡ n → ((i : ℕ) (y : X) → slice_get xs i ≡ Some y → P i y) → P n x → (i : ℕ) (y : X) → slice_get ys i ≡ Some y → P i y
 each_after {X} P xs ys x n pushed count each last =
     subst (λ (zs : List X). (i : ℕ) (y : X) → slice_get zs i ≡ Some y → P i y) (sym pushed) (each_pushed P xs x each (subst (λ m. P m x) (sym count) last))
-
--- An element that is read is the one by that number.
-pub read_is : {X : Type 0} (xs : List X) (i : ℕ) (x y : X) → i < length xs → x ≡ get_or xs i x → slice_get xs i ≡ Some y → x ≡ y
-read_is xs i x y less is at = let same : Some x ≡ Some y = ap Some is ∙ sym (slice_get-get_or xs i x less) ∙ at in cc
 
 -- ---- by point of an agent
 

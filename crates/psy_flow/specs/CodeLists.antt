@@ -5,7 +5,7 @@ use Rattle.psy_base.specs.Extremes.{most_of}
 use Rattle.psy_code.specs.declared.code.Code.{Code}
 use Rattle.psy_code.specs.declared.instr.Instr.{Instr}
 use Rattle.psy_tree.specs.declared.unit.Unit.{Unit as Whole}
-use Rattle.psy_meaning.specs.CodeWays.{AreCodeDelays, AreCodeLooks, AreCodeNexts, code_of, place_of}
+use Rattle.psy_meaning.specs.CodeWays.{AreCodeDelays, AreCodeLooks, AreCodeNexts, agent_code_at, place_of}
 use Rattle.psy_meaning.specs.Flow.{Rises}
 use Rattle.psy_meaning.specs.ListedWays.{AreByPoint, points_of}
 use Rattle.psy_meaning.specs.Sendings.{delay_of}
@@ -60,7 +60,7 @@ pub record IsRaisedTo (Has : ℕ → ℕ → Type 0) (before after : List ℕ) :
 
 -- By point of an agent, the numbers that rows have at its place
 pub record AreAgentNumbers (rows : List (List ℕ)) (code : Code) (agent : ℕ) (lists : List (List ℕ)) : Type 0 where
-  pub count : length lists ≡ length (code_of code agent).points
+  pub count : length lists ≡ length (agent_code_at code agent).points
   pub each : (point : ℕ) (numbers : List ℕ) → slice_get lists point ≡ Some numbers → AreNumbers (HasNumber rows (place_of code agent point)) numbers
 
 -- The same by agent
@@ -70,7 +70,7 @@ pub record AreAllNumbers (rows : List (List ℕ)) (code : Code) (lists : List (L
 
 -- By point of an agent, the numbers below a bound that are found on the ways from there
 pub record AreAgentFound (code : Code) (sought : Sought) (count agent : ℕ) (lists : List (List ℕ)) : Type 0 where
-  pub points : length lists ≡ length (code_of code agent).points
+  pub points : length lists ≡ length (agent_code_at code agent).points
   pub each : (point : ℕ) (numbers : List ℕ) → slice_get lists point ≡ Some numbers → Rises numbers
       × ((number : ℕ) → Contains numbers number → IsFoundFrom code.instrs sought (place_of code agent point) number)
       × ((number : ℕ) → number < count → IsFoundFrom code.instrs sought (place_of code agent point) number → Contains numbers number)
@@ -88,7 +88,7 @@ most_points unit = most_of (map (λ a. length a.points) unit.agents)
 
 -- The place is that of a point of an agent.
 abbrev pub IsPointPlace : Code → ℕ → ℕ → Type 0
-IsPointPlace code agent place = (point : ℕ) × (point < length (code_of code agent).points) × (place ≡ place_of code agent point)
+IsPointPlace code agent place = (point : ℕ) × (point < length (agent_code_at code agent).points) × (place ≡ place_of code agent point)
 
 -- The places of all points of the first so many agents, and of the first so many of the next one
 abbrev pub AreStartsUpTo : Code → ℕ → ℕ → List ℕ → Type 0

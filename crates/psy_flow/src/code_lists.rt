@@ -18,10 +18,10 @@ use crate::ends::ends_among;
 use crate::next::no_marks;
 use crate::paths::{code_paths, zeros};
 use crate::point_lists::place_at;
-use crate::pushes::push;
 use crate::walks::passed_by_marks;
 use psy_base::{Items, Memory, SendWay, Ways};
 use psy_code::{Code, Instr};
+use psy_lists::push;
 use psy_tree::{AgentDecl, Unit};
 use std::alloc::Global;
 

@@ -6,8 +6,8 @@ ghost use Rattle.psy_meaning.specs.Sendings.{longest_delay, period_of, sendings_
 ghost use Rattle.psy_meaning.specs.Units.{IsOfText};
 ghost use Rattle.psy_flow.specs.Listed.{delay_among};
 
-use crate::pushes::push;
 use psy_base::{Items, Memory};
+use psy_lists::push;
 use psy_tree::{Stmt, Unit};
 use std::alloc::Global;
 

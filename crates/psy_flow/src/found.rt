@@ -8,9 +8,9 @@ use crate::bits::has_bit;
 use crate::gather::gather;
 use crate::kinds::Sought;
 use crate::parts::{Part, part_of};
-use crate::pushes::push;
 use psy_base::{Items, Memory};
 use psy_code::Instr;
+use psy_lists::push;
 use std::alloc::Global;
 
 // 1 for the end of a way.

@@ -29,7 +29,6 @@ mod parts;
 mod paths;
 mod point_lists;
 mod points;
-mod pushes;
 mod quests;
 mod reach;
 mod sending;

@@ -11,9 +11,9 @@ ghost use Rattle.psy_flow.specs.Listed.{AreStatedPaths};
 use crate::delays::delays;
 use crate::looking::looks_by_point;
 use crate::next::nexts_by_point;
-use crate::pushes::push;
 use crate::sending::sends_by_point;
 use psy_base::{Items, Memory, SendWay, Ways};
+use psy_lists::push;
 use psy_tree::{AgentDecl, Unit};
 use std::alloc::Global;
 

@@ -10,9 +10,9 @@ ghost use Rattle.psy_flow.specs.Listed.{AreLonger, AreLooksBelow, AreOf, if_so};
 use crate::backwards::counts_of_points;
 use crate::gauge::Gauge;
 use crate::laws::{known, named, texts};
-use crate::pushes::empty_lists;
 use crate::texts::looked_at;
 use psy_base::{Items, Memory};
+use psy_lists::empty_lists;
 use psy_tree::AgentDecl;
 use std::alloc::Global;
 

@@ -9,9 +9,9 @@ ghost use Rattle.psy_meaning.specs.Flow.{AreNexts, IsNext, Rises};
 ghost use Rattle.psy_flow.specs.Reach.{numbers_of};
 
 use crate::laws::known;
-use crate::pushes::push;
 use crate::reach::reach_from;
 use psy_base::{Items, Memory};
+use psy_lists::push;
 use psy_tree::AgentDecl;
 use std::alloc::Global;
 

@@ -2,19 +2,19 @@
 
 ghost use Rattle.std.specs.Prelude.{◌≡◌, ◌<◌, ◌≤◌, length, IfOk};
 ghost use Rattle.psy_base.specs.declared.limits.TheConstants.{POINTS};
-ghost use Rattle.psy_meaning.specs.CodeWays.{code_of, place_of};
+ghost use Rattle.psy_meaning.specs.CodeWays.{agent_code_at, place_of};
 ghost use Rattle.psy_flow.specs.CodeLists.{AreAgentNumbers, AreAllNumbers};
 
 use crate::numbers::numbers_at;
-use crate::pushes::push;
 use psy_base::{Items, Memory};
 use psy_code::Code;
+use psy_lists::push;
 use std::alloc::Global;
 
 /// Where a point of an agent stands in the code.
 pub fn place_at(code: &Code, agent: usize, point: usize) -> usize
     requires agent { agent < length code.now.agents }
-    requires point { point < length (code_of code.now agent).points }
+    requires point { point < length (agent_code_at code.now agent).points }
     ensures { result ≡ place_of code.now agent point }
 {
     code.agents.as_slice()[agent].points.as_slice()[point] as usize
@@ -23,7 +23,7 @@ pub fn place_at(code: &Code, agent: usize, point: usize) -> usize
 /// How many points an agent has in the code.
 pub fn points_in(code: &Code, agent: usize) -> usize
     requires { agent < length code.now.agents }
-    ensures { result ≡ length (code_of code.now agent).points }
+    ensures { result ≡ length (agent_code_at code.now agent).points }
 {
     code.agents.as_slice()[agent].points.len()
 }

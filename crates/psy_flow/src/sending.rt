@@ -12,9 +12,9 @@ ghost use Rattle.psy_flow.specs.Texts.{marked_at, streams_in};
 use crate::backwards::counts_of_points;
 use crate::gauge::Gauge;
 use crate::laws::{known, named, nexts, texts};
-use crate::pushes::empty_lists;
 use crate::texts::sent_to;
 use psy_base::{Items, Memory, SendWay};
+use psy_lists::empty_lists;
 use psy_tree::AgentDecl;
 use std::alloc::Global;
 

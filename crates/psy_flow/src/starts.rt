@@ -1,7 +1,7 @@
 //! The places where ways through a program's code begin: those of its points.
 
 ghost use Rattle.std.specs.Prelude.{◌≡◌, ◌<◌, ◌↔◌, ℕ, length, IfOk, OnOk};
-ghost use Rattle.psy_meaning.specs.CodeWays.{code_of, place_of};
+ghost use Rattle.psy_meaning.specs.CodeWays.{agent_code_at, place_of};
 ghost use Rattle.psy_flow.specs.CodeLists.{AreStarts, AreStartsUpTo};
 
 use crate::point_lists::{place_at, points_in};
@@ -13,7 +13,7 @@ use std::alloc::Global;
 fn add_starts(starts: &mut Items<usize>, code: &Code, agent: usize) -> Result<(), Memory>
     requires agent { agent < length code.now.agents }
     requires before { AreStartsUpTo code.now agent 0 starts.old }
-    ensures { OnOk result (AreStartsUpTo code.now agent (length (code_of code.now agent).points) starts.new) }
+    ensures { OnOk result (AreStartsUpTo code.now agent (length (agent_code_at code.now agent).points) starts.new) }
 {
     'points: for point in 0..points_in(code, agent) {
         starts.push(place_at(code, agent, point))?;

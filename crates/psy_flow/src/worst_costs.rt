@@ -8,8 +8,8 @@ use crate::backwards::counts_of_points;
 use crate::costs::costs_of_calls;
 use crate::gauge::Gauge;
 use crate::laws::known;
-use crate::pushes::push;
 use psy_base::{Items, Memory};
+use psy_lists::push;
 use psy_tree::Unit;
 use std::alloc::Global;
 

@@ -1,11 +1,11 @@
 -- The code of a sound unit acts as its statements.
 use Rattle.std.proofs.Common.{◌≡◌, refl, sym, ap, subst, ◌∙◌, arith}
-use Rattle.std.specs.Prelude.{ℕ, zero, suc, ◌+◌, ◌<◌, ◌≤◌, T, List, [], ◌∷◌, ◌++◌, map, replicate, length, slice_get, slice_index_or, Some}
-use Rattle.std.proofs.lemmas.List.{length-append, length-replicate, append_assoc}
+use Rattle.std.specs.Prelude.{ℕ, zero, suc, ◌+◌, ◌<◌, ◌≤◌, T, List, [], ◌∷◌, ◌++◌, map, length, slice_get, slice_index_or, Some}
+use Rattle.std.proofs.lemmas.List.{length-append, append_assoc}
+use Rattle.psy_meaning.proofs.lemmas.SlotCells.{lengths_of}
 use Rattle.psy_tree.specs.declared.unit.Unit.{Unit as Whole}
 use Rattle.psy_tree.specs.declared.unit.AgentDecl.{AgentDecl}
 use Rattle.psy_tree.specs.declared.unit.FunctionDecl.{FunctionDecl}
-use Rattle.psy_tree.specs.declared.unit.Slots.{Slots}
 use Rattle.psy_code.specs.declared.code.Code.{Code}
 use Rattle.psy_code.specs.declared.code.AgentCode.{AgentCode}
 use Rattle.psy_code.specs.declared.instr.Instr.{Instr}
@@ -90,10 +90,6 @@ agent_at unit whole (a ∷ rest) first p (suc number) agent its h small e f =
 
 -- ---- an agent
 
-slots_shape : (slots : List Slots) → map length (map (λ (s : Slots). replicate s.cells s.init) slots) ≡ map (λ (s : Slots). s.cells) slots
-slots_shape [] = refl
-slots_shape (s ∷ rest) = ap (λ n. n ∷ map length (map (λ (s : Slots). replicate s.cells s.init) rest)) (length-replicate s.cells s.init) ∙ ap (λ l. s.cells ∷ l) (slots_shape rest)
-
 copies_same : (copies : List Copy) → map copy_from (map copy_init copies) ≡ copies
 copies_same [] = refl
 copies_same (c ∷ rest) = ap (λ l. c ∷ l) (copies_same rest)
@@ -118,7 +114,7 @@ module _ (unit : Whole) (whole : Code) (number : ℕ) (agent : AgentDecl) (its :
   room = subst (λ x. Room x Home (total sc.layout + count) depth.operands depth.cells (length unit.functions)) (sym its_is) (record { stack = omega arith; frames = omega arith; calls = omega (arith, sound.few) })
 
   shape : (store : Store) (view : View) → IsStoreOf unit number agent store → IsViewOf unit number view → Shape sc (begun store view)
-  shape store view is seen = record { slots = is.slots ∙ slots_shape agent.slots; copies = is.variables; pasts = seen.depths; streams = seen.streams }
+  shape store view is seen = record { slots = is.slots ∙ lengths_of agent.slots; copies = is.variables; pasts = seen.depths; streams = seen.streams }
 
   -- the number of its points
   points_are : length its.points ≡ length agent.points

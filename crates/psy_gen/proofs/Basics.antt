@@ -1,6 +1,6 @@
 -- Small facts of options, tests and lists.
-use Rattle.std.proofs.Common.{◌≡◌, refl, ap, subst, arith}
-use Rattle.std.specs.Prelude.{ℕ, zero, suc, ◌<◌, true, false, T, List, [], ◌∷◌, length, Option, Some, None, slice_get}
+use Rattle.std.proofs.Common.{◌≡◌, refl, ap, arith}
+use Rattle.std.specs.Prelude.{ℕ, zero, suc, ◌<◌, List, [], ◌∷◌, length, Option, Some, None, slice_get}
 
 abbrev pub default : {A : Type 0} → A → Option A → A
 default d None = d
@@ -15,9 +15,6 @@ how_many (Some x) = 1
 
 pub no_some : {A B : Type 0} (x : A) → None ≡ Some x → B
 no_some x e = absurd (omega (arith, ap how_many e))
-
-pub differ : {A : Type 0} → true ≡ false → A
-differ h = elim (subst T h (tt {0})) [ ]
 
 pub got-within : (xs : List ℕ) (i : ℕ) → i < length xs → (x : ℕ) × (slice_get xs i ≡ Some x)
 got-within [] i h = absurd (omega (arith, h))

@@ -1,7 +1,8 @@
 -- How a machine stands for a state of the statements: in the agent's body, or in the innermost of some open calls.
 use Rattle.std.proofs.Common.{◌≡◌, refl, subst, ◌∙◌, arith}
-use Rattle.std.specs.Prelude.{ℕ, ◌+◌, ◌≤◌, ◌&&◌, nat_le, Bool, true, false, List, [], ◌∷◌, ◌++◌, map, length, slice_get, Some, ℤ, ⊤}
+use Rattle.std.specs.Prelude.{ℕ, ◌+◌, ◌≤◌, nat_le, true, List, [], ◌∷◌, ◌++◌, map, length, slice_get, Some, ℤ, ⊤}
 use Rattle.std.specs.List.{flat_map}
+use Rattle.psy_lists.proofs.lemmas.Tests.{both}
 use Rattle.psy_code.specs.declared.code.Code.{Code}
 use Rattle.psy_code.specs.declared.code.AgentCode.{AgentCode}
 use Rattle.psy_code.specs.declared.instr.Instr.{Instr}
@@ -76,14 +77,10 @@ pub depth_used : (k : Context) (store : Store) (counters : List ℕ) → length 
 depth_used Home store counters = refl
 depth_used (Inside home copies back outer) store counters = omega arith
 
-both_true : (a b : Bool) → a ≡ true → b ≡ true → (a && b) ≡ true
-both_true true b p q = q
-both_true false b p q = p
-
 pub has_room_by : (its : AgentCode) (m : Machine) → length m.operands ≤ its.stack → cells_in_calls m.calls ≤ its.frames → length m.calls ≤ 64 → has_room its m ≡ true
 has_room_by its m operands cells calls =
-    both_true (nat_le (length m.operands) its.stack) _ (le_true (length m.operands) its.stack operands)
-    (both_true (nat_le (cells_in_calls m.calls) its.frames) _ (le_true (cells_in_calls m.calls) its.frames cells) (le_true (length m.calls) 64 calls))
+    both (nat_le (length m.operands) its.stack) _ (le_true (length m.operands) its.stack operands)
+    (both (nat_le (cells_in_calls m.calls) its.frames) _ (le_true (cells_in_calls m.calls) its.frames cells) (le_true (length m.calls) 64 calls))
 
 pub roomy : (its : AgentCode) (k : Context) (p : ℕ) (operands : List ℤ) (store : Store) (counters : List ℕ) (cells calls : ℕ) → Room its k (frame_size store counters) (length operands) cells calls → has_room its (machine_in k p operands store counters) ≡ true
 roomy its k p operands store counters cells calls r =

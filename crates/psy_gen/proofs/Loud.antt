@@ -1,6 +1,7 @@
 -- Statements of which no path is quiet don't fall through.
 use Rattle.std.proofs.Common.{◌≡◌, refl, sym, subst, ◌∙◌}
 use Rattle.std.specs.Prelude.{ℕ, Bool, true, false, ◌&&◌, if◌then◌else◌, List, [], ◌∷◌, map, Some, None, ℤ, ⊤}
+use Rattle.psy_lists.proofs.lemmas.Tests.{differ}
 use Rattle.psy_arith.specs.Operators.{is_zero}
 use Rattle.psy_tree.specs.declared.unit.Stmt.{Stmt, roll-Stmt, fold-roll-Stmt, map-Stmt, ind-Stmt}
 use Rattle.psy_tree.specs.declared.unit.Stmt.TheOpen.{Stmt-F}
@@ -9,7 +10,6 @@ use Rattle.psy_meaning.specs.Expressions.{eval}
 use Rattle.psy_meaning.specs.Statements.{all_of, choose, hop, stmt_step, act_by}
 use Rattle.psy_meaning.specs.Paths.{all_quiet, quiet_step, quiet, quiet_list}
 use Rattle.psy_meaning.proofs.lemmas.NoWays.{or_false}
-use Rattle.psy_gen.proofs.Basics.{differ}
 
 abbrev falls : Outcome → Type 0
 falls (Falls s) = ⊤

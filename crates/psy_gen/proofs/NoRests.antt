@@ -2,6 +2,7 @@
 use Rattle.std.proofs.Common.{◌≡◌, refl, sym, ap, subst, ◌∙◌, arith}
 use Rattle.std.specs.Prelude.{ℕ, Bool, true, false, List, [], ◌∷◌, ◌++◌, map, length, Some, None}
 use Rattle.std.specs.List.{list_any}
+use Rattle.psy_lists.proofs.lemmas.Tests.{differ}
 use Rattle.psy_tree.specs.declared.unit.Stmt.{Stmt, roll-Stmt, fold-roll-Stmt, map-Stmt, ind-Stmt}
 use Rattle.psy_tree.specs.declared.unit.Stmt.TheOpen.{Stmt-F}
 use Rattle.psy_meaning.specs.Paths.{one_of, holds_step, holds, holds_advance, advances_step, advances_of, advances_in}
@@ -9,7 +10,6 @@ use Rattle.psy_meaning.specs.Rest.{rests_in, with_rests}
 use Rattle.psy_meaning.proofs.lemmas.RestsOf.{rests_count}
 use Rattle.psy_gen.specs.Emission.{places_in}
 use Rattle.psy_meaning.proofs.lemmas.NoWays.{or_false}
-use Rattle.psy_gen.proofs.Basics.{differ}
 use Rattle.psy_gen.proofs.Equations.{placed}
 use Rattle.psy_gen.proofs.PlaceCounts.{places_count}
 

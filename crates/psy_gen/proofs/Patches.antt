@@ -1,7 +1,6 @@
 -- A jump is kept a place, and set once its target is known.
-use Rattle.std.proofs.Common.{◌≡◌, ℕ, ◌+◌, ◌<◌, List, drop, get_or, [], ◌∷◌, ◌++◌, length, refl, sym, ap, ◌∙◌, inl, inr, arith, append_assoc, length-append, length-set}
+use Rattle.std.proofs.Common.{◌≡◌, ℕ, ◌+◌, List, [], ◌∷◌, ◌++◌, length, refl, sym, ap, ◌∙◌, inl, inr, arith, append_assoc, length-append, length-set}
 use Rattle.std.specs.Prelude.{◌⊎◌, slice_set, Some, None}
-use Rattle.std.proofs.lemmas.List.{drop_more}
 use Rattle.std.proofs.Math.Seq.{set-append_seam}
 use Rattle.psy_arith.specs.declared.operators.Op2.{Op2}
 use Rattle.psy_arith.specs.declared.operators.Op2.TheVariants as op
@@ -35,10 +34,6 @@ behind_stmt layout s counter c0 c1 is = ap length is ∙ length-append c0 (stmt_
 
 pub behind_one : (c0 c1 : List Instr) (x : Instr) → c1 ≡ c0 ++ x ∷ [] → length c1 ≡ length c0 + 1
 behind_one c0 c1 x is = ap length is ∙ length-append c0 (x ∷ [])
-
--- What is left of a list, one item on
-pub drop_read : {X : Type 0} (xs : List X) (i : ℕ) (x : X) → i < length xs → x ≡ get_or xs i x → drop i xs ≡ x ∷ drop (i + 1) xs
-drop_read xs i x h is = drop_more xs i x h ∙ ap (λ y. y ∷ drop (i + 1) xs) (sym is)
 
 pub then_one : (c0 c1 c2 t : List Instr) (x : Instr) → c1 ≡ c0 ++ t → c2 ≡ c1 ++ x ∷ [] → c2 ≡ c0 ++ (t ++ x ∷ [])
 then_one c0 c1 c2 t x e1 e2 = e2 ∙ ap (λ c. c ++ x ∷ []) e1 ∙ append_assoc c0 t (x ∷ [])

@@ -2,6 +2,7 @@
 use Rattle.std.proofs.Common.{◌≡◌, refl, sym, ap, subst, ◌∙◌, arith}
 use Rattle.std.specs.Prelude.{ℕ, zero, suc, ◌+◌, ◌<◌, ◌≤◌, max, false, List, [], ◌∷◌, ◌++◌, map, length, slice_get, slice_index_or, Some, None, ⊤}
 use Rattle.std.proofs.lemmas.List.{append-nil, map-append, map-id}
+use Rattle.psy_meaning.proofs.lemmas.RestPieces.{stmts_are}
 use Rattle.psy_tree.specs.declared.unit.Expr.{Expr}
 use Rattle.psy_tree.specs.declared.unit.Stmt.{Stmt, roll-Stmt, fold-roll-Stmt, para-roll-Stmt, rec-roll-Stmt, map-Stmt, ind-Stmt}
 use Rattle.psy_tree.specs.declared.unit.Stmt.TheOpen.{Stmt-F}
@@ -38,10 +39,6 @@ after_first xs bs (Halts final) h = refl
 all_of-append : (xs bs : List Act) (s : State) → all_of (xs ++ bs) s ≡ then_do (all_of xs s) (all_of bs)
 all_of-append [] bs s = refl
 all_of-append (a ∷ xs) bs s = after_first xs bs (a s) (all_of-append xs bs)
-
-pub stmts_are : (stmts : List Stmt) → stmts_in (map with_rests stmts) ≡ stmts
-stmts_are [] = refl
-stmts_are (x ∷ xs) = ap (λ l. x ∷ l) (stmts_are xs)
 
 pieces_are : (callees : ℕ → Callee) (stmts : List Stmt) → map (piece_by callees) (pieces_of stmts) ≡ map (act_by callees) stmts
 pieces_are callees [] = refl

@@ -1,10 +1,10 @@
 -- The agents of a unit all have graphs within the limits, or one of them is the first that has none.
-use Rattle.std.proofs.Common.{◌≡◌, ℕ, zero, suc, ◌<◌, ◌≤◌, ◌⊎◌, inl, inr, List, [], ◌∷◌, Some, length, map, refl, sym, ap, subst, ◌∙◌, eq-or-lt_of_le, arith}
-use Rattle.std.specs.Prelude.{slice_get}
+use Rattle.std.proofs.Common.{◌≡◌, ℕ, zero, suc, ◌<◌, ◌≤◌, ◌⊎◌, inl, inr, List, [], length, map, sym, ap, subst, ◌∙◌, eq-or-lt_of_le, arith}
 use Rattle.std.proofs.lemmas.Bool.{cases_lt}
 use Rattle.std.proofs.lemmas.List.{ext_get_or, length-map}
-use Rattle.std.proofs.lemmas.Option.{none-some, same_Some, slice_get_within, slice_get-get_or}
+use Rattle.std.proofs.lemmas.Option.{slice_get_within, slice_get-get_or}
 use Rattle.psy_base.specs.declared.limits.TheConstants.{NODES, EDGES}
+use Rattle.psy_lists.proofs.lemmas.Places.{there, listed}
 use Rattle.psy_tree.specs.declared.unit.Unit.{Unit as Whole}
 use Rattle.psy_meaning.specs.Graph.{PassesNodes, PassesEdges}
 use Rattle.psy_meaning.specs.Timing.{Timing}
@@ -16,25 +16,6 @@ use Rattle.psy_graph.proofs.Explored.{explored}
 use Rattle.psy_graph.proofs.Links.{ComesLate}
 use Rattle.psy_graph.proofs.Phases.{ComesAgain}
 use Rattle.psy_graph.proofs.lemmas.Unique.{same_timing, one_has, small_passes_no_nodes, small_passes_no_edges, one_passed}
-
--- For each number below a bound there is one of these: so there is a list of them.
-listed : {X : Type 0} (Has : ℕ → X → Type 0) (n : ℕ) → ((k : ℕ) → k < n → (x : X) × Has k x) → (xs : List X) × (length xs ≡ n) × ((k : ℕ) (x : X) → slice_get xs k ≡ Some x → Has k x)
-listed Has zero each = ([], refl, λ k x is. absurd (none-some x is))
-listed {X} Has (suc n) each =
-    let first = each 0 (omega arith) in
-    let (xs, many, later) = listed (λ k. Has (suc k)) n (λ k less. each (suc k) (omega (arith, less))) in
-    let at : (k : ℕ) (x : X) → slice_get (first.0 ∷ xs) k ≡ Some x → Has k x = with_first Has first.0 xs first.1 later in
-    (first.0 ∷ xs, omega (arith, many), at)
-  where
-    with_first : {X : Type 0} (Has : ℕ → X → Type 0) (x : X) (xs : List X) → Has 0 x → ((k : ℕ) (y : X) → slice_get xs k ≡ Some y → Has (suc k) y) → (k : ℕ) (y : X) → slice_get (x ∷ xs) k ≡ Some y → Has k y
-    with_first Has x xs has later zero y is = subst (Has 0) (same_Some x y is) has
-    with_first Has x xs has later (suc k) y is = later k y is
-
--- The one at a place of a list
-pub there : {X : Type 0} (xs : List X) (k : ℕ) → k < length xs → (x : X) × (slice_get xs k ≡ Some x)
-there [] k less = absurd (omega (arith, less))
-there (x ∷ xs) zero less = (x, refl)
-there (x ∷ xs) (suc k) less = there xs k (omega (arith, less))
 
 abbrev no_graph : Graph
 no_graph = record { nodes = []; edges = [] }

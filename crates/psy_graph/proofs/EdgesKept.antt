@@ -5,6 +5,7 @@ use Rattle.std.specs.List.{All, Contains}
 use Rattle.std.proofs.lemmas.Option.{slice_get_within}
 use Rattle.psy_base.specs.declared.edge.Edge.{Edge}
 use Rattle.psy_base.specs.declared.limits.TheConstants.{BUDGET}
+use Rattle.psy_lists.proofs.lemmas.Members.{all_members}
 use Rattle.psy_clock.specs.declared.clock.Clock.{Clock}
 use Rattle.psy_clock.specs.Dates.{IsClock, after_date}
 use Rattle.psy_meaning.specs.Timing.{Timing, point_at, clock_at, following, budget_at, end_date, deadline, least}
@@ -66,12 +67,6 @@ module _ (late : (c : Clock) (t k : ℕ) → IsClock c → 1 ≤ k → t < after
 length_map : {X Y : Type 0} (f : X → Y) (xs : List X) → length (map f xs) ≡ length xs
 length_map f [] = refl
 length_map f (x ∷ xs) = omega (arith, length_map f xs)
-
--- What each member of a list keeps, all of it keeps.
-pub all_members : {X : Type 0} (P : X → Type 0) (xs : List X) → ((x : X) → Contains xs x → P x) → All P xs
-all_members P [] each k d less = absurd (omega (arith, less))
-all_members P (x ∷ xs) each zero d less = each x (0, omega arith, refl)
-all_members P (x ∷ xs) each (suc k) d less = all_members P xs (λ y c. each y (suc c.0, omega (arith, c.1), c.2)) k d (omega (arith, less))
 
 pub edges_kept : ((c : Clock) (t k : ℕ) → IsClock c → 1 ≤ k → t < after_date c t k) → (timing : Timing) (graph : Graph) → IsTimed timing → IsGraphOf timing graph → All (IsEdge (length graph.nodes)) graph.edges
 edges_kept late timing graph timed drawn = all_members (IsEdge (length graph.nodes)) graph.edges each

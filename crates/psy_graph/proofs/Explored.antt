@@ -4,6 +4,8 @@ use Rattle.std.specs.List.{Contains}
 use Rattle.std.proofs.lemmas.List.{length-map}
 use Rattle.std.proofs.lemmas.List.Elements.{All-contains, All-contains_itself, All-weaker}
 use Rattle.psy_base.specs.declared.limits.TheConstants.{NODES, EDGES}
+use Rattle.psy_graph.proofs.lemmas.MayStarts.{may_point}
+use Rattle.psy_lists.proofs.lemmas.Members.{map_contains}
 use Rattle.psy_window.specs.Windows.{IsEdge}
 use Rattle.psy_meaning.specs.Timing.{Timing, budget_at, end_date, deadline, MayStart}
 use Rattle.psy_meaning.specs.Graph.{IsCycle, IsGraph, PassesNodes, PassesEdges}
@@ -15,9 +17,9 @@ use Rattle.psy_graph.specs.Places.{spot_by, place_at, IsMetAt, ArePlaces}
 use Rattle.psy_graph.specs.Drawn.{place_of, node_of, edge_to, first_edges, drawn}
 use Rattle.psy_graph.proofs.Periods.{cycle_is, cycle_same}
 use Rattle.psy_graph.proofs.Phases.{ComesAgain}
-use Rattle.psy_graph.proofs.Reached.{may_point, all_places, are_spots}
+use Rattle.psy_graph.proofs.Reached.{all_places, are_spots}
 use Rattle.psy_graph.proofs.Numbers.{number_is}
-use Rattle.psy_graph.proofs.Links.{ComesLate, deadline_late, deadline_first, later_by, edge_in, are_edges, next_contained, place_contained, map_contains}
+use Rattle.psy_graph.proofs.Links.{ComesLate, deadline_late, deadline_first, later_by, edge_in, are_edges, next_contained, place_contained}
 
 nodes_spots : (timing : Timing) (places : List Place) → map spot_of (map (node_of timing) places) ≡ map spot_by places
 nodes_spots timing [] = refl

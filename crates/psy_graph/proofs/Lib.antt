@@ -1,7 +1,6 @@
 -- The lemmas of this crate, by subject.
 mod ByNexts
 mod Causes
-mod Cycles
 mod EdgesKept
 mod Explored
 mod Finding

@@ -1,15 +1,18 @@
 -- The edges of the graph: those that are made from the places are those of the actions that may start.
-use Rattle.std.proofs.Common.{◌≡◌, ℕ, zero, suc, ◌+◌, ◌-◌, ◌*◌, ◌/◌, ◌%◌, ◌<◌, ◌≤◌, List, [], ◌∷◌, ◌++◌, All, map, length, get_or, take, append_assoc, refl, sym, ap, subst, ◌∙◌, inl, inr, Some, arith, length-append}
+use Rattle.std.proofs.Common.{◌≡◌, ℕ, zero, suc, ◌+◌, ◌-◌, ◌*◌, ◌/◌, ◌%◌, ◌<◌, ◌≤◌, List, [], ◌∷◌, ◌++◌, map, length, get_or, take, append_assoc, refl, sym, ap, subst, ◌∙◌, inl, inr, Some, arith, length-append}
 use Rattle.std.specs.List.{AllPairs, Contains, slice_get}
 use Rattle.std.proofs.lemmas.Bool.{cases_lt}
 use Rattle.std.proofs.lemmas.Option.{slice_get-get_or, slice_get_within, get_or_from_slice_get}
-use Rattle.std.proofs.lemmas.List.{map_more, get_or-map, length-map, get_or_append_left, get_or-append_right, get_or_default}
-use Rattle.std.proofs.lemmas.List.Elements.{All-head, All-tail, All-map, All-contains, All-contains_itself, All-weaker, Contains-append_left, Contains-append_right, Contains-append_cases}
+use Rattle.std.proofs.lemmas.List.{map_more, get_or-map, length-map, get_or_default}
+use Rattle.std.proofs.lemmas.List.Elements.{All-map, All-contains, All-contains_itself, All-weaker, Contains-append_left, Contains-append_right, Contains-append_cases}
 use Rattle.psy_base.specs.declared.edge.Edge.{Edge}
 use Rattle.psy_base.specs.declared.limits.TheConstants.{NODES}
+use Rattle.psy_graph.proofs.lemmas.MayStarts.{may_point}
+use Rattle.psy_lists.proofs.lemmas.Ordered.{pairs_append}
+use Rattle.psy_lists.proofs.lemmas.Members.{contains_map, map_contains}
 use Rattle.psy_clock.specs.declared.clock.Clock.{Clock}
 use Rattle.psy_clock.specs.Dates.{IsClock, after_date}
-use Rattle.psy_meaning.specs.Timing.{Timing, point_at, clock_at, following, budget_at, end_date, least, deadline}
+use Rattle.psy_meaning.specs.Timing.{Timing, point_at, clock_at, following, budget_at, end_date, deadline}
 use Rattle.psy_meaning.specs.Graph.{Spot, spot_at, IsEdgeOf, EdgeBefore, AreEdges}
 use Rattle.psy_graph.specs.declared.cycle.TheConstants.{FAR}
 use Rattle.psy_graph.specs.declared.graph.Node.{Node}
@@ -19,41 +22,12 @@ use Rattle.psy_graph.specs.Steps.{STEP, IsModulus, cycle_of}
 use Rattle.psy_graph.specs.Places.{spot_by, place_at, IsMetAt, IsSought, HasFollowers, ArePlaces, AreNear}
 use Rattle.psy_graph.specs.Drawn.{number_of, place_of, node_of, edge_to, edges_from, first_edges}
 use Rattle.psy_graph.proofs.Periods.{clock_lawful}
-use Rattle.psy_meaning.proofs.lemmas.Leasts.{least_below}
+use Rattle.psy_meaning.proofs.lemmas.Leasts.{least_below, least_above}
 use Rattle.psy_graph.proofs.Phases.{ComesAgain, ComesNear, end_near, phase_and_cycles, end_of_phase, deadline_of_phase, same_phase}
 use Rattle.psy_graph.proofs.Rooms.{same_place}
-use Rattle.psy_graph.proofs.Reached.{may_point}
 use Rattle.psy_graph.proofs.Numbers.{number_at, number_is, number_rises, place_there, sought_at}
 
 -- ---- lists
-
-pub contains_map : {X Y : Type 0} (f : X → Y) (xs : List X) (x : X) → Contains xs x → Contains (map f xs) (f x)
-contains_map f xs x c = (c.0, omega (arith, c.1, length-map xs f), get_or-map f xs c.0 x (f x) c.1 ∙ ap f c.2)
-
--- An item of a mapped list is that of some item.
-pub map_contains : {X Y : Type 0} (f : X → Y) (xs : List X) (y : Y) → Contains (map f xs) y → (x : X) × Contains xs x × (f x ≡ y)
-map_contains f [] y (k, l, e) = absurd (omega (arith, l))
-map_contains f (x ∷ xs) y (zero, l, e) = (x, (0, omega arith, refl), e)
-map_contains f (x ∷ xs) y (suc k, l, e) =
-    let rest = map_contains f xs y (k, omega (arith, l), e) in (rest.0, (suc rest.1.0, omega (arith, rest.1.1), rest.1.2), rest.2)
-
-pairs_append : {X : Type 0} (R : X → X → Type 0) (xs ys : List X) → AllPairs R xs → AllPairs R ys → ((x y : X) → Contains xs x → Contains ys y → R x y) → AllPairs R (xs ++ ys)
-pairs_append {X} R xs ys rx ry both i j d ij jl =
-    let n = length xs in
-    let len : length (xs ++ ys) ≡ n + length ys = length-append xs ys in
-    elim (cases_lt j n) [
-      | inl l ↦ subst (λ a. R a (get_or (xs ++ ys) j d)) (sym (get_or_append_left xs ys d i (omega (arith, ij, l)))) (subst (λ b. R (get_or xs i d) b) (sym (get_or_append_left xs ys d j l)) (rx i j d ij l))
-      | inr g ↦ (
-          let ej : get_or (xs ++ ys) j d ≡ get_or ys (j - n) d = get_or-append_right xs ys n j d refl g in
-          let lj : j - n < length ys = omega (arith, g, jl, len) in
-          elim (cases_lt i n) [
-            | inl l ↦ (
-                let ci : Contains xs (get_or xs i d) = (i, l, get_or_default xs i (get_or xs i d) d l) in
-                let cj : Contains ys (get_or ys (j - n) d) = (j - n, lj, get_or_default ys (j - n) (get_or ys (j - n) d) d lj) in
-                subst (λ a. R a (get_or (xs ++ ys) j d)) (sym (get_or_append_left xs ys d i l)) (subst (λ b. R (get_or xs i d) b) (sym ej) (both (get_or xs i d) (get_or ys (j - n) d) ci cj)))
-            | inr gi ↦ subst (λ a. R a (get_or (xs ++ ys) j d)) (sym (get_or-append_right xs ys n i d refl gi)) (subst (λ b. R (get_or ys (i - n) d) b) (sym ej) (ry (i - n) (j - n) d (omega (arith, gi, g, ij)) lj))
-          ])
-    ]
 
 -- ---- the dates of actions that start in one phase
 
@@ -64,14 +38,6 @@ ComesLate = (c : Clock) (t k : ℕ) → IsClock c → 1 ≤ k → t < after_date
 pub end_late : ComesLate → (timing : Timing) → IsTimed timing → (start to : ℕ) → 1 ≤ to → to < length timing.points → start < end_date timing start to
 end_late late timing timed start to some h =
     late (clock_at timing (point_at timing to).clock) start (point_at timing to).count (clock_lawful timing timed to h) (timed.counts to some h).0
-
-least_above : (b : ℕ) (xs : List ℕ) → 1 ≤ length xs → All (λ n. b < n) xs → b < least xs
-least_above b [] some all = absurd (omega (arith, some))
-least_above b (x ∷ []) some all = All-head (λ n. b < n) x [] all
-least_above b (x ∷ y ∷ xs) some all =
-    let head : b < x = All-head (λ n. b < n) x (y ∷ xs) all in
-    let rest : b < least (y ∷ xs) = least_above b (y ∷ xs) (omega arith) (All-tail (λ n. b < n) x (y ∷ xs) all) in
-    omega (arith, head, rest)
 
 pub deadline_late : ComesLate → (timing : Timing) → IsTimed timing → (point start : ℕ) → point < length timing.points → start < deadline timing point start
 deadline_late late timing timed point start h =

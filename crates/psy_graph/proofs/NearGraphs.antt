@@ -1,10 +1,11 @@
 -- The numbers of a graph lie near: phases since its places were found one by one, each no farther than a step behind another.
-use Rattle.std.proofs.Common.{◌≡◌, ◌∙◌, sym, ap, subst, inl, inr, ℕ, ◌+◌, ◌*◌, ◌<◌, ◌≤◌, List, map, length, get_or, arith}
+use Rattle.std.proofs.Common.{◌≡◌, sym, subst, inl, inr, ℕ, ◌+◌, ◌*◌, ◌<◌, ◌≤◌, map, length, get_or, arith}
 use Rattle.std.specs.List.{All, Contains}
-use Rattle.std.proofs.lemmas.List.{get_or-map, length-map}
 use Rattle.std.proofs.lemmas.List.Elements.{All-contains, All-map, Contains-get_or}
 use Rattle.psy_base.specs.declared.edge.Edge.{Edge}
 use Rattle.psy_base.specs.declared.limits.TheConstants.{NODES}
+use Rattle.psy_graph.proofs.lemmas.MayStarts.{may_point}
+use Rattle.psy_lists.proofs.lemmas.Members.{contains_map, all_members, all_unmapped}
 use Rattle.psy_meaning.specs.Graph.{Spot}
 use Rattle.psy_meaning.specs.Timing.{Timing, deadline, following}
 use Rattle.psy_graph.specs.declared.graph.Graph.{Graph}
@@ -14,20 +15,12 @@ use Rattle.psy_graph.specs.Graphs.{IsGraphOf, IsSmall, IsTimed, spot_of}
 use Rattle.psy_graph.specs.Near.{IsNear, IsNearNode}
 use Rattle.psy_graph.specs.Places.{spot_by}
 use Rattle.psy_graph.specs.Steps.{STEP}
-use Rattle.psy_graph.proofs.EdgesKept.{all_members, budget_small, due_by_end}
+use Rattle.psy_graph.proofs.EdgesKept.{budget_small, due_by_end}
 use Rattle.psy_graph.proofs.Explored.{drawn_is}
 use Rattle.psy_graph.proofs.Links.{ComesLate}
 use Rattle.psy_graph.proofs.Phases.{ComesAgain, ComesNear, end_near}
-use Rattle.psy_graph.proofs.Reached.{all_places, may_point}
+use Rattle.psy_graph.proofs.Reached.{all_places}
 use Rattle.psy_graph.proofs.lemmas.Unique.{drawn_spots, small_passes_no_nodes}
-
--- What holds of all that is made of a list's elements
-all_back : {X Y : Type 0} (P : Y → Type 0) (f : X → Y) (xs : List X) → All P (map f xs) → All (λ x. P (f x)) xs
-all_back P f xs all k d less = subst P (get_or-map f xs k d (f d) less) (all k (f d) (omega (arith, less, length-map xs f)))
-
--- What is made of a list's element is among what is made of them all.
-map_has : {X Y : Type 0} (f : X → Y) (xs : List X) (x : X) → Contains xs x → Contains (map f xs) (f x)
-map_has f xs x c = (c.0, omega (arith, c.1, length-map xs f), get_or-map f xs c.0 x (f x) c.1 ∙ ap f c.2)
 
 module _ (again : ComesAgain) (late : ComesLate) (near : ComesNear) (timing : Timing) (timed : IsTimed timing) (graph : Graph) (drawn : IsGraphOf timing graph) (small : IsSmall graph) where
   phases : All (λ node. node.phase ≤ STEP * NODES) graph.nodes
@@ -35,7 +28,7 @@ module _ (again : ComesAgain) (late : ComesLate) (near : ComesNear) (timing : Ti
     | inl found ↦ (
         let same = drawn_spots timing (map spot_of graph.nodes) (map spot_by found.0) graph.edges (first_edges timing found.0 (length found.0)) drawn.drawn (drawn_is again late timing timed found.0 found.1) in
         let P : Spot → Type 0 = λ spot. spot.phase ≤ STEP * NODES in
-        all_back P spot_of graph.nodes (subst (All P) (sym same) (All-map P spot_by found.0 (found.3 near))))
+        all_unmapped P spot_of graph.nodes (subst (All P) (sym same) (All-map P spot_by found.0 (found.3 near))))
     | inr many ↦ absurd (small_passes_no_nodes timing graph drawn small many)
   ]
 
@@ -48,7 +41,7 @@ module _ (again : ComesAgain) (late : ComesLate) (near : ComesNear) (timing : Ti
 
   node_near : (node : Node) → Contains graph.nodes node → IsNearNode node
   node_near node there =
-      let met = (drawn.drawn.nodes.all (spot_of node)).0 (map_has spot_of graph.nodes node there) in
+      let met = (drawn.drawn.nodes.all (spot_of node)).0 (contains_map spot_of graph.nodes node there) in
       let known = may_point timing timed node.point met.0 met.1 in
       let budget = drawn.budgets node there in
       record {

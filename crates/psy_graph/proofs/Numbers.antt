@@ -1,10 +1,11 @@
 -- The numbers of places in order.
-use Rattle.std.proofs.Common.{◌≡◌, ℕ, ◌<◌, Bool, true, false, ◌==◌, Decides, List, length, get_or, refl, sym, ap, subst, ◌∙◌, inl, inr, arith}
+use Rattle.std.proofs.Common.{◌≡◌, ℕ, ◌<◌, true, false, ◌==◌, Decides, List, length, get_or, sym, ap, subst, ◌∙◌, inl, inr, arith}
 use Rattle.std.specs.List.{AllPairs, Contains}
 use Rattle.std.proofs.lemmas.Bool.{cases_order}
 use Rattle.std.proofs.lemmas.Bool.Decides.{Decides-eqb, Decides-and}
 use Rattle.std.proofs.lemmas.List.{get_or_default}
 use Rattle.std.proofs.lemmas.List.Sums.{position_or_len_is}
+use Rattle.psy_lists.proofs.lemmas.Tests.{not_true}
 use Rattle.psy_graph.specs.declared.place.Place.{Place}
 use Rattle.psy_graph.specs.Places.{Before, IsSought}
 use Rattle.psy_graph.specs.Drawn.{is_place, number_of, place_of}
@@ -16,12 +17,8 @@ is_place_decides p q = Decides-and (q.point == p.point) (q.phase == p.phase) (De
 place_is : (p q : Place) → q ≡ p → is_place p q ≡ true
 place_is p q e = (is_place_decides p q).1 (ap (λ r. r.point) e, ap (λ r. r.phase) e)
 
-false_by : (b : Bool) → (b ≡ true → ⊥) → b ≡ false
-false_by true h = absurd (h refl)
-false_by false h = refl
-
 place_differs : (p q : Place) → Before q p → is_place p q ≡ false
-place_differs p q b = false_by (is_place p q) (λ is. (let e = (is_place_decides p q).0 is in before_self p (subst (λ r. Before r p) (same_place q p e.0 e.1) b)))
+place_differs p q b = not_true (is_place p q) (λ is. (let e = (is_place_decides p q).0 is in before_self p (subst (λ r. Before r p) (same_place q p e.0 e.1) b)))
 
 -- The number of a place is that at which it stands.
 pub number_at : (places : List Place) (p : Place) (i : ℕ) → AllPairs Before places → i < length places → get_or places i p ≡ p → number_of places p ≡ i

@@ -12,7 +12,7 @@ use Rattle.psy_meaning.specs.Graph.{IsLeastCommonMultiple, IsCycle, periods}
 use Rattle.psy_graph.specs.declared.cycle.TheConstants.{FAR}
 use Rattle.psy_graph.specs.Graphs.{IsTimed}
 use Rattle.psy_graph.specs.Steps.{joined, cycle_of, IsModulus}
-use Rattle.psy_graph.proofs.Cycles.{multiple_is, least_same, least_push, joined_is}
+use Rattle.psy_graph.proofs.lemmas.Cycles.{multiple_is, least_same, least_push, joined_is}
 
 -- The period of the clock that a point names
 abbrev pub period_of : Timing → Point → ℕ

@@ -20,11 +20,6 @@ use Rattle.psy_graph.proofs.Rooms.{contains_behind, room_rise, room_for}
 abbrev no_place : Place
 no_place = record { point = 0; phase = 0 }
 
--- An action starts at a point of the agent.
-pub may_point : (timing : Timing) → IsTimed timing → (point start : ℕ) → MayStart timing point start → point < length timing.points
-may_point timing timed point start first = omega (arith, timed.head)
-may_point timing timed point start (later from begun to may follows) = (timed.within from point follows).1
-
 pub first_met : (timing : Timing) → IsMetAt timing (place_at timing 0 (first_date timing))
 first_met timing = (first_date timing, first, refl)
 

@@ -1,9 +1,9 @@
 -- What is known of the timing of an agent of a text.
-use Rattle.std.proofs.Common.{◌≡◌, ℕ, zero, suc, ◌+◌, ◌<◌, ◌≤◌, List, [], ◌∷◌, ◌++◌, All, length, get_or, Some, sym, ap, subst, ◌∙◌, inl, inr, arith}
+use Rattle.std.proofs.Common.{◌≡◌, ℕ, zero, suc, ◌<◌, ◌≤◌, List, [], ◌∷◌, All, length, get_or, Some, ap, subst, inl, inr, arith}
 use Rattle.std.specs.Prelude.{slice_get}
 use Rattle.std.proofs.lemmas.Bool.{cases_lt}
 use Rattle.std.proofs.lemmas.Option.{slice_get_within, get_or_from_slice_get, slice_get-get_or}
-use Rattle.std.proofs.lemmas.List.{get_or_append_left, get_or_push, get_or_past}
+use Rattle.std.proofs.lemmas.List.{get_or_past}
 use Rattle.std.proofs.lemmas.List.Elements.{All-cons, All-contains, All-weaker, All-get_or}
 use Rattle.psy_base.specs.declared.limits.TheConstants.{ADVANCE, BUDGET}
 use Rattle.psy_tree.specs.declared.unit.AgentDecl.{AgentDecl}
@@ -15,14 +15,6 @@ use Rattle.psy_meaning.specs.Timing.{timing_of}
 use Rattle.psy_meaning.specs.Units.{HasHead, IsBareAgent, IsBarePoint}
 use Rattle.psy_graph.specs.Graphs.{IsTimed}
 use Rattle.psy_graph.specs.Places.{IsList}
-
--- What holds by number of each item holds of one more.
-pub each_more : {X : Type 0} (P : ℕ → X → Type 0) (xs ys : List X) (x : X) (n : ℕ) → length xs ≡ n → ((i : ℕ) (d : X) → i < n → P i (get_or xs i d)) → P n x → ys ≡ xs ++ x ∷ [] → (i : ℕ) (d : X) → i < n + 1 → P i (get_or ys i d)
-each_more P xs ys x n count each one pushed i d l = elim (cases_lt i n) [
-  | inl h ↦ subst (P i) (sym (ap (λ zs. get_or zs i d) pushed ∙ get_or_append_left xs (x ∷ []) d i (omega (arith, h, count)))) (each i d h)
-  | inr h ↦ (let is : i ≡ n = omega (arith, l, h) in
-      subst (P i) (sym (ap (λ zs. get_or zs i d) pushed ∙ get_or_push xs x d i (count ∙ sym is))) (subst (λ k. P k x) (sym is) one))
-]
 
 points_named : (unit : Unit) (agent : AgentDecl) (points : List Point) → HasHead agent points (IsBarePoint unit) → agent.clock < length unit.clocks → All (λ p. p.clock < length unit.clocks) points
 points_named unit agent [] h l = elim h [ ]

@@ -1,6 +1,6 @@
 //! The graphs of a program's agents.
 
-ghost use Rattle.std.specs.Prelude.{◌≡◌, ◌⊎◌, ◌<◌, [], ◌∷◌, ◌++◌, length, IfOk, OnOk, IfErr};
+ghost use Rattle.std.specs.Prelude.{◌≡◌, ◌⊎◌, ◌<◌, length, IfOk, IfErr};
 ghost use Rattle.std.specs.List.{All};
 ghost use Rattle.psy_meaning.specs.ListedWays.{AreWaysFor};
 ghost use Rattle.psy_meaning.specs.RingSizes.{agent_timing};
@@ -17,10 +17,11 @@ use crate::explore::explore;
 use crate::fault::GraphFault;
 use crate::graph::Graph;
 use crate::times::Times;
-use psy_base::{Items, Memory, Ways};
+use psy_base::{Items, Ways};
 use psy_clock::laws::distances;
 use psy_flow::laws::listed;
 use psy_flow::ways;
+use psy_lists::push;
 use psy_tree::Unit;
 use std::alloc::Global;
 
@@ -55,13 +56,6 @@ fn graph_of(alloc: Global, unit: &Unit, ways: &Ways, number: u32) -> Result<Grap
         nexts: nexts.as_slice(),
     };
     graph_by(alloc, &times, number)
-}
-
-fn push(graphs: &mut Items<Graph>, graph: Graph) -> Result<(), Memory>
-    ensures { OnOk result (graphs.new ≡ graphs.old ++ graph ∷ []) }
-{
-    graphs.push(graph)?;
-    Ok(())
 }
 
 /// The graphs of all agents of a program in order, by the points that follow each of their points. `Nodes` and `Edges` name the first agent

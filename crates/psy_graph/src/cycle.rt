@@ -12,8 +12,8 @@ use crate::times::Times;
 /// No date that the graph of an agent is made from lies behind this one.
 pub const FAR: u64 = 8_589_934_592;
 
-/// The greatest common divisor of two numbers.
-fn common_divisor(a: u64, b: u64) -> u64
+/// The greatest common divisor of two numbers (Euclid); that of 0 and a number is this number.
+pub fn common_divisor(a: u64, b: u64) -> u64
     ensures { IsGcd a b result }
 {
     let mut x = a;

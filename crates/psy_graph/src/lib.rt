@@ -13,5 +13,6 @@ mod place;
 mod times;
 
 pub use agents::{build, build_by};
+pub use cycle::common_divisor;
 pub use fault::GraphFault;
 pub use graph::{Graph, Node};

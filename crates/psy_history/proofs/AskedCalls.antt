@@ -2,6 +2,7 @@
 use Rattle.std.proofs.Common.{◌≡◌, ◌⊎◌, ℕ, zero, suc, ◌<◌, Option, Some, None, refl, ap, ◌∙◌, subst, inl, inr, arith}
 use Rattle.std.specs.List.{Contains}
 use Rattle.std.proofs.lemmas.List.Elements.{Contains-push_cases}
+use Rattle.psy_lists.proofs.lemmas.Members.{contains_none}
 use Rattle.psy_code.specs.declared.code.AgentCode.{AgentCode}
 use Rattle.psy_code.specs.declared.code.Code.{Code}
 use Rattle.psy_code.specs.declared.look.Sent.{Sent}
@@ -9,7 +10,6 @@ use Rattle.psy_code.specs.Execution.{Next, Went, Ended, Trapped, Stuck, NoRun, R
 use Rattle.psy_code.specs.Views.{Call, Deeds, Looked, Past, Ready, Send, Take, nothing_done, tick}
 use Rattle.psy_history.specs.Executors.{Carried, acted_as}
 use Rattle.psy_history.proofs.LooksOfCode.{before_or_made}
-use Rattle.psy_history.proofs.Members.{contains_none}
 
 -- What a run did
 abbrev pub deeds_of : Run → Deeds

@@ -8,6 +8,7 @@ use Rattle.std.proofs.lemmas.List.Sums.{sum_by-cons}
 use Rattle.std.proofs.lemmas.Nat.{div-add-mod', div_below, mod_below}
 use Rattle.psy_base.specs.declared.edge.Edge.{Edge}
 use Rattle.psy_base.specs.Paths.{DueBy, IsPathFrom, weight_of}
+use Rattle.psy_lists.proofs.lemmas.Members.{all_members}
 use Rattle.psy_history.specs.Actions.{Action, System, timing}
 use Rattle.psy_history.specs.History.{history}
 use Rattle.psy_history.specs.Schedule.{Turn, is_pending, units, work}
@@ -20,7 +21,6 @@ use Rattle.psy_history.proofs.Deadlines.{deadline_least}
 use Rattle.psy_history.proofs.Edges.{step_some}
 use Rattle.psy_history.proofs.KeptCycles.{Covers, IsCovered, Older}
 use Rattle.psy_history.proofs.KeptDates.{covered_in, kept, older_in, rests_of}
-use Rattle.psy_history.proofs.Members.{all_members}
 use Rattle.psy_history.proofs.PathShifts.{due_begun}
 use Rattle.psy_history.proofs.Numbers.{agent_of}
 use Rattle.psy_history.proofs.Totals.{sum_most, total}

@@ -3,6 +3,7 @@ use Rattle.std.proofs.Common.{◌≡◌, ℕ, ◌<◌, List, [], ◌∷◌, ◌+
 use Rattle.std.specs.Prelude.{ℤ, drop, take}
 use Rattle.std.specs.List.{flat_map}
 use Rattle.std.proofs.lemmas.List.{length-append, length-drop, length-take-le, take-append-drop}
+use Rattle.psy_meaning.proofs.lemmas.SlotCells.{lengths_of}
 use Rattle.psy_code.specs.declared.code.Code.{Code}
 use Rattle.psy_tree.specs.declared.unit.AgentDecl.{AgentDecl}
 use Rattle.psy_tree.specs.declared.unit.Unit.{Unit as Whole}
@@ -12,7 +13,7 @@ use Rattle.psy_tree.specs.Parts.{agent_at}
 use Rattle.psy_meaning.specs.States.{Store}
 use Rattle.psy_history.specs.Compiled.{IsCompiled}
 use Rattle.psy_history.specs.Openings.{MayCarry}
-use Rattle.psy_history.proofs.Cuts.{lengths_of, store_back}
+use Rattle.psy_history.proofs.Cuts.{store_back}
 use Rattle.psy_history.proofs.Stores.{AreStoreLaws, Carries, alike}
 
 -- Lists one behind the other

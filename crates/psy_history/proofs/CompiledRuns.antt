@@ -7,6 +7,10 @@ use Rattle.std.proofs.lemmas.List.{map-append}
 use Rattle.std.proofs.lemmas.List.Elements.{All-contains, Contains-append_left, Contains-get_or}
 use Rattle.std.proofs.lemmas.List.Sums.{sum_by-append, sum_by-cons}
 use Rattle.std.proofs.lemmas.Option.{slice_get-get_or}
+use Rattle.psy_meaning.proofs.lemmas.SomeSendings.{some_here}
+use Rattle.psy_meaning.proofs.lemmas.Running.{same_running}
+use Rattle.psy_lists.proofs.lemmas.Places.{mapped_from}
+use Rattle.psy_lists.proofs.lemmas.Members.{contains_none, contains_map, filter_in, flat_map_in}
 use Rattle.psy_arith.specs.declared.operators.Trap.{Trap}
 use Rattle.psy_budget.specs.declared.charge.Stall.{Stall}
 use Rattle.psy_code.specs.declared.code.AgentCode.{AgentCode}
@@ -20,7 +24,8 @@ use Rattle.psy_tree.specs.declared.unit.Unit.{Unit as Whole}
 use Rattle.psy_tree.specs.declared.unit.VarDecl.{VarDecl}
 use Rattle.psy_history.specs.Actions.{System, timing}
 use Rattle.psy_meaning.specs.Alike.{EndsAs, IsViewOf, begun as begun_with, first_store, is_there, started}
-use Rattle.psy_history.specs.Executors.{Carried, agent_code_at, by_code, carried_by, machine_at, store_of}
+use Rattle.psy_meaning.specs.CodeWays.{agent_code_at}
+use Rattle.psy_history.specs.Executors.{Carried, by_code, carried_by, machine_at, store_of}
 use Rattle.psy_tree.specs.Parts.{agent_at}
 use Rattle.psy_meaning.specs.Flow.{AreNexts, IsWayFrom}
 use Rattle.psy_meaning.specs.Kept.{AreDeedsOf, IsKept, IsLookOf, IsSentOf, Receives}
@@ -41,13 +46,11 @@ use Rattle.psy_history.proofs.CarriedStores.{carries_of, may_carry}
 use Rattle.psy_history.proofs.GoingOn.{looked_at, sent_there}
 use Rattle.psy_history.proofs.HeldWindow.{most_above}
 use Rattle.psy_history.proofs.LateLooks.{over_stays}
-use Rattle.psy_history.proofs.Members.{contains_map, contains_none, filter_in, flat_map_in}
 use Rattle.psy_history.proofs.OutboxSizes.{count_none}
 use Rattle.psy_history.proofs.PlainOpenings.{plain_sound}
-use Rattle.psy_history.proofs.Sights.{SeesAs, same_running, sees_as, there_found}
+use Rattle.psy_history.proofs.Sights.{SeesAs, sees_as, there_found}
 use Rattle.psy_history.proofs.Stores.{AreStoreLaws, EndsAlike, ends_alike, first_carried, of_unit}
 use Rattle.psy_history.proofs.Timings.{followed, follows, has_head}
-use Rattle.psy_history.proofs.ViewsServe.{made_of}
 
 -- What the laws say of a unit of a text, and of code.
 pub record AreLaws (unit : Whole) (code : Code) : Type 0 where
@@ -69,10 +72,6 @@ count_by-map test f (x ∷ xs) =
 none_there : (sendings : List Sending) → is_some_sending sendings ≡ false → sendings ≡ []
 none_there [] e = refl
 none_there (sending ∷ more) e = absurd cc
-
-some_there : (sendings : List Sending) (sending : Sending) → Contains sendings sending → is_some_sending sendings ≡ true
-some_there [] sending c = absurd (contains_none sending c)
-some_there (one ∷ more) sending c = refl
 
 -- The state of an action that is over
 abbrev state_in : Final → State
@@ -229,7 +228,7 @@ module _ (unit : Whole) (code : Code) (nexts : List (List (List ℕ))) (stalls :
               let all = all_sendings unit sent.stream in
               record {
                 fits = All-contains (IsSentOf unit) u.deeds.sends sent deeds.sends c;
-                named = some_there all (sending_of sent) there;
+                named = some_here all (sending_of sent) there;
                 soon = most_above (map (delay_of unit) all) (delay_of unit (sending_of sent)) (contains_map (delay_of unit) all (sending_of sent) there);
               }
 
@@ -239,7 +238,7 @@ module _ (unit : Whole) (code : Code) (nexts : List (List (List ℕ))) (stalls :
               let look : Looked = record { number = goes.state.deeds.steps; variable = variable; back = back } in
               let there = looked_at code its begun n u.deeds goes variable back asks in
               let (depth, at, low) = All-contains (IsLookOf unit) u.deeds.looks look deeds.looks there in
-              let (v, is, same) = made_of (λ (v : VarDecl). v.depth) unit.variables variable depth at in
+              let (v, is, same) = mapped_from (λ (v : VarDecl). v.depth) unit.variables variable depth at in
               (v, is, subst (λ d. back < d) (sym same) low, (on.to, on.met, on.way, look, on.looks look there, refl))
           may_ask (Some (Ready stream)) asks served = receives stream (there_found goes.state.view.messages stream served)
           may_ask (Some (Take stream)) asks served = receives stream (there_found goes.state.view.messages stream served)

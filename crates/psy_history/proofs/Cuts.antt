@@ -1,16 +1,16 @@
 -- A store is what its agent's cells give when they are cut by its slots.
-use Rattle.std.proofs.Common.{◌≡◌, ℕ, zero, suc, List, [], ◌∷◌, map, length, replicate, refl, sym, ap, ap₂, subst, ◌∙◌}
-use Rattle.std.proofs.lemmas.List.{drop_at, length-replicate, take_at}
+use Rattle.std.proofs.Common.{◌≡◌, ℕ, zero, suc, List, [], ◌∷◌, map, length, refl, sym, ap, ap₂, subst, ◌∙◌}
+use Rattle.std.proofs.lemmas.List.{drop_at, take_at}
 use Rattle.std.proofs.lemmas.List.Elements.{All-drop, All-map, All-take}
 use Rattle.std.proofs.lemmas.Option.{none-some, same_Some}
 use Rattle.std.proofs.Math.Facts.{sfits_lit}
 use Rattle.std.specs.List.{All, flat_map}
 use Rattle.std.specs.Prelude.{ℤ, pos, drop, take, FitsSigned}
+use Rattle.psy_meaning.proofs.lemmas.SlotCells.{lengths_of}
 use Rattle.psy_arith.specs.declared.width.Width.{Width}
 use Rattle.psy_arith.specs.declared.width.Width.TheVariants.{W8, W16, W32, W64}
 use Rattle.psy_arith.specs.Widths.{of_type}
 use Rattle.psy_tree.specs.declared.unit.AgentDecl.{AgentDecl}
-use Rattle.psy_tree.specs.declared.unit.Slots.{Slots}
 use Rattle.psy_tree.specs.declared.unit.Unit.{Unit as Whole}
 use Rattle.psy_meaning.specs.Alike.{FitSlots, IsStoreOf}
 use Rattle.psy_history.specs.Executors.{carried_in, cut, store_of}
@@ -23,10 +23,6 @@ cut_joined (cells ∷ slots) =
     let rest = flat_map (λ (cells : List ℤ). cells) slots in
     ap₂ (λ head tail. head ∷ tail) (take_at cells rest (length cells) refl)
     (ap (cut (map length slots)) (drop_at cells rest (length cells) refl) ∙ cut_joined slots)
-
-pub lengths_of : (slots : List Slots) → map length (map (λ (s : Slots). replicate s.cells s.init) slots) ≡ map (λ (s : Slots). s.cells) slots
-lengths_of [] = refl
-lengths_of (s ∷ slots) = ap₂ (λ head tail. head ∷ tail) (length-replicate s.cells s.init) (lengths_of slots)
 
 pub store_back : (unit : Whole) (number : ℕ) (agent : AgentDecl) (store : Store) → IsStoreOf unit number agent store → store_of agent (carried_in store) ≡ store
 store_back unit number agent store h =

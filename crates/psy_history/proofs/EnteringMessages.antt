@@ -4,6 +4,7 @@ use Rattle.std.specs.List.{Contains, range_with_len}
 use Rattle.std.proofs.lemmas.Bool.{cases_Bool, cond_both, eq-eqb, eqb-true}
 use Rattle.std.proofs.lemmas.List.Elements.{All-contains}
 use Rattle.psy_base.specs.declared.message.Message.{Message}
+use Rattle.psy_lists.proofs.lemmas.Members.{contains_none, contains_front, front_or_behind, flat_map_in, flat_map_from}
 use Rattle.psy_history.specs.Actions.{Action, System, Verdict, Done, Trapped, Overran}
 use Rattle.psy_history.specs.History.{history}
 use Rattle.psy_history.specs.Visible.{is_same, messages, messages_by}
@@ -11,7 +12,6 @@ use Rattle.psy_history.specs.Queues.{ends_at, entering, entering_of}
 use Rattle.psy_history.specs.Regular.{IsRegular}
 use Rattle.psy_history.proofs.Growth.{stays_started}
 use Rattle.psy_history.proofs.LastActions.{ended_before, last_began}
-use Rattle.psy_history.proofs.Members.{contains_front, contains_none, flat_map_from, flat_map_in, front_or_behind}
 use Rattle.psy_history.proofs.MessageOrder.{differing, pairs_none}
 use Rattle.psy_history.proofs.Reached.{in_range, of_range}
 use Rattle.psy_history.proofs.SentMessages.{AreClockLaws, HasStreams, IsBefore, apart, by_apart, contains_messages, known, pairs_flat_map, range_rises, sent_is}

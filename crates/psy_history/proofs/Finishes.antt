@@ -6,6 +6,7 @@ use Rattle.std.proofs.lemmas.Bool.{cases_Bool, ltb-false}
 use Rattle.std.proofs.lemmas.List.Elements.{All-contains}
 use Rattle.std.proofs.lemmas.Nat.{mul-le}
 use Rattle.std.proofs.lemmas.Option.{same_Some}
+use Rattle.psy_lists.proofs.lemmas.Members.{contains_none, contains_front, contains_behind, front_or_behind, all_members}
 use Rattle.psy_history.specs.Actions.{Action, Next, System, next_of}
 use Rattle.psy_history.specs.History.{action_of, history}
 use Rattle.psy_history.specs.Schedule.{Turn, finish, is_of, is_pending, units, work}
@@ -14,7 +15,6 @@ use Rattle.psy_history.specs.Processors.{processor_at}
 use Rattle.psy_history.specs.Scheduled.{IsFinished, IsSupplied, turns_by}
 use Rattle.psy_history.proofs.Growth.{at_each_date, grown, kept_on, stays_started}
 use Rattle.psy_history.proofs.KeptDates.{due_over, earlier_over}
-use Rattle.psy_history.proofs.Members.{all_members, contains_behind, contains_front, contains_none, front_or_behind}
 use Rattle.psy_history.proofs.Numbers.{agent_of}
 use Rattle.psy_history.proofs.OwnAgents.{one_of_them}
 use Rattle.psy_history.proofs.Turns.{next_is_pending, next_turn, serving, turns_in}

@@ -10,6 +10,7 @@ use Rattle.std.proofs.lemmas.List.Elements.{All-contains, All-map}
 use Rattle.std.proofs.lemmas.Option.{slice_get-get_or}
 use Rattle.psy_base.specs.declared.ways.SendWay.{SendWay}
 use Rattle.psy_base.specs.declared.ways.Ways.{Ways as WayLists}
+use Rattle.psy_lists.proofs.lemmas.Places.{listed_at}
 use Rattle.psy_budget.specs.declared.charge.Stall.{Stall}
 use Rattle.psy_code.specs.declared.code.Code.{Code}
 use Rattle.psy_code.specs.Execution.{copy_from}
@@ -17,7 +18,8 @@ use Rattle.psy_tree.specs.declared.unit.Unit.{Unit as Whole}
 use Rattle.psy_tree.specs.Parts.{agent_at}
 use Rattle.psy_history.specs.Actions.{System, plain, timing}
 use Rattle.psy_history.specs.Compiled.{AreInputs, coded}
-use Rattle.psy_history.specs.Executors.{agent_code_at, by_code}
+use Rattle.psy_meaning.specs.CodeWays.{agent_code_at}
+use Rattle.psy_history.specs.Executors.{by_code}
 use Rattle.psy_history.specs.Fitting.{FitsBy, undisturbed}
 use Rattle.psy_history.specs.Openings.{MayCarry}
 use Rattle.psy_history.specs.Runs.{IsRun}
@@ -25,7 +27,6 @@ use Rattle.psy_meaning.specs.KnownWays.{HasMost, Listed, any_to, is_sent, most_i
 use Rattle.psy_meaning.specs.Timing.{following}
 use Rattle.psy_history.proofs.OpenedRuns.{goes_there}
 use Rattle.psy_history.proofs.PlainOpenings.{plain_sound}
-use Rattle.psy_history.proofs.Timings.{listed}
 
 -- ---- what no element passes
 
@@ -51,7 +52,7 @@ module _ (unit : Whole) (code : Code) (ways : WayLists) (stalls : ℕ → List S
       let lists = get_or ways.nexts agent [] in
       let nexts = get_or lists point [] in
       let count : length ways.nexts ≡ length unit.agents = sym (length-map ways.nexts length) ∙ ap length fits.lists.nexts.counts ∙ length-map unit.agents (λ a. length a.points) in
-      let are = fits.lists.nexts.each agent point lists nexts (slice_get-get_or ways.nexts agent [] (omega (arith, less, count))) (listed lists point to c) in
+      let are = fits.lists.nexts.each agent point lists nexts (slice_get-get_or ways.nexts agent [] (omega (arith, less, count))) (listed_at lists point to c) in
       All-contains (λ to. (1 ≤ to) × (to < length (agent_at unit agent).points)) nexts to are.known c
 
   unsent : (agent point to stream : ℕ) → is_sent (Listed ways) stream ≡ false → HasMost (Listed ways) agent point to stream 0

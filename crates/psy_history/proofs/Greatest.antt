@@ -3,7 +3,7 @@ use Rattle.std.proofs.Common.{◌≡◌, ℕ, ◌≤◌, max, List, [], ◌∷�
 use Rattle.std.specs.List.{Contains}
 use Rattle.std.proofs.lemmas.Bool.{cases_lt}
 use Rattle.psy_base.specs.Extremes.{greater, greatest_of}
-use Rattle.psy_history.proofs.Members.{contains_behind, contains_front, contains_none, front_or_behind}
+use Rattle.psy_lists.proofs.lemmas.Members.{contains_none, contains_front, contains_behind, front_or_behind}
 
 -- This is the greatest of the numbers; none where there is no number.
 abbrev IsGreatest : List ℕ → Option ℕ → Type 0

@@ -4,6 +4,7 @@ use Rattle.std.specs.Prelude.{◌==◌, ℤ, slice_get}
 use Rattle.std.specs.List.{Contains}
 use Rattle.std.proofs.lemmas.Bool.{cases_Bool, cases_lt, eqb-false, eqb-true}
 use Rattle.std.proofs.lemmas.Option.{none-some, same_Some, slice_get_within}
+use Rattle.psy_lists.proofs.lemmas.Members.{contains_behind}
 use Rattle.psy_budget.specs.declared.charge.Stall.{Stall}
 use Rattle.psy_code.specs.Views.{found_in}
 use Rattle.psy_tree.specs.declared.unit.AgentDecl.{AgentDecl}
@@ -11,7 +12,6 @@ use Rattle.psy_tree.specs.declared.unit.Unit.{Unit as Whole}
 use Rattle.psy_history.specs.Actions.{Action, History, Next, System, Verdict, Done, Trapped, Overran, first_action, from_start, next_by, next_of}
 use Rattle.psy_history.specs.Executors.{Carried, Executor}
 use Rattle.psy_history.specs.History.{action_of, history, with_start}
-use Rattle.psy_history.proofs.Members.{contains_behind}
 
 -- ---- the next action
 

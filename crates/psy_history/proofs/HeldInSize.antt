@@ -7,6 +7,8 @@ use Rattle.std.proofs.lemmas.List.Concat.{flat_map-append}
 use Rattle.std.proofs.lemmas.List.Elements.{All-contains, filter-append}
 use Rattle.psy_base.specs.declared.limits.TheConstants.{QUEUE}
 use Rattle.psy_base.specs.declared.message.Message.{Message}
+use Rattle.psy_lists.proofs.lemmas.Ranges.{range_longer}
+use Rattle.psy_lists.proofs.lemmas.Searches.{filter_less}
 use Rattle.psy_history.specs.Actions.{Action, System, stream_of, timing}
 use Rattle.psy_base.specs.Extremes.{IsGreatest}
 use Rattle.psy_history.specs.History.{history}
@@ -18,17 +20,12 @@ use Rattle.psy_history.specs.Ways.{IsSentBy}
 use Rattle.psy_meaning.specs.KnownWays.{Ways, delay_by, is_sent}
 use Rattle.psy_history.proofs.HeldWindow.{AreNear, Opens, expires_near, fresh_near, swept_near}
 use Rattle.psy_history.proofs.MessagesOfSends.{of_send}
-use Rattle.psy_history.proofs.PassingMessages.{filter_fewer, filter_less, filter_none, passing_ordered}
+use Rattle.psy_history.proofs.PassingMessages.{filter_fewer, filter_none, passing_ordered}
 use Rattle.psy_history.proofs.SendWeights.{SendsByWay}
 use Rattle.psy_history.proofs.SentInTime.{is_recent, messages_of, most_in_time}
 use Rattle.psy_history.proofs.SentMessages.{AreClockLaws, HasStreams, entered_behind, of_actions, sent_is}
 
 -- ---- all agents
-
--- One number more, behind the others
-range_more : (a n : ℕ) → range_with_len a (suc n) ≡ range_with_len a n ++ (a + n) ∷ []
-range_more a zero = (let same : a ≡ a + 0 = omega arith in ap (λ k. k ∷ []) same)
-range_more a (suc n) = (let same : (a + 1) + n ≡ a + suc n = omega arith in ap (λ ks. a ∷ ks) (range_more (a + 1) n ∙ ap (λ k. range_with_len (a + 1) n ++ k ∷ []) same))
 
 module _ (s : System) (ways : Ways) (streams : HasStreams s) (stream date : ℕ) (by_way : (dates agent : ℕ) → All (SendsByWay ways agent) (history s dates agent)) where
   -- the messages of an agent's actions that start by the date
@@ -55,7 +52,7 @@ module _ (s : System) (ways : Ways) (streams : HasStreams s) (stream date : ℕ)
     all_agents (suc n) size (others, one, below, spread, sum) small =
         let last : 0 + n ≡ n = omega arith in
         let split : of_agents (suc n) ≡ of_agents n ++ of_agent n =
-        ap (flat_map of_agent) (range_more 0 n ∙ ap (λ k. range_with_len 0 n ++ k ∷ []) last) ∙ flat_map-append of_agent (range_with_len 0 n) (n ∷ []) ∙ ap (λ ms. of_agents n ++ ms) (append-nil (of_agent n)) in
+        ap (flat_map of_agent) (range_longer 0 n ∙ ap (λ k. range_with_len 0 n ++ k ∷ []) last) ∙ flat_map-append of_agent (range_with_len 0 n) (n ∷ []) ∙ ap (λ ms. of_agents n ++ ms) (append-nil (of_agent n)) in
         let parts : length (filter recent (of_agents (suc n))) ≡ length (filter recent (of_agents n)) + length (filter recent (of_agent n)) =
         ap (λ ms. length (filter recent ms)) split ∙ ap length (filter-append recent (of_agents n) (of_agent n)) ∙ length-append (filter recent (of_agents n)) (filter recent (of_agent n)) in
         omega (arith, parts, sum, all_agents n others below (omega (arith, sum, small)), one_agent n one spread (omega (arith, sum, small)))

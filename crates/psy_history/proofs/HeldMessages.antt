@@ -5,6 +5,7 @@ use Rattle.std.specs.List.{Contains}
 use Rattle.std.proofs.lemmas.Bool.{and_from, and_parts, cases_Bool, false_from_ne_true, le-leb, leb-true, lt-ltb}
 use Rattle.std.proofs.lemmas.List.Elements.{All-contains}
 use Rattle.psy_base.specs.declared.message.Message.{Message}
+use Rattle.psy_lists.proofs.lemmas.Members.{contains_front, filter_in, filter_from}
 use Rattle.psy_queue.specs.Order.{comes_before}
 use Rattle.psy_history.specs.Actions.{Action, System, is_silent, stream_of}
 use Rattle.psy_history.specs.History.{history}
@@ -12,7 +13,6 @@ use Rattle.psy_history.specs.Visible.{is_fresh, is_held, is_in_view, is_same, is
 use Rattle.psy_history.specs.Queues.{queue_of}
 use Rattle.psy_history.specs.Regular.{IsRegular}
 use Rattle.psy_history.proofs.LastActions.{ended_by}
-use Rattle.psy_history.proofs.Members.{contains_front, filter_from, filter_in}
 use Rattle.psy_history.proofs.MessageOrder.{pairs_none, same_entry, strictly, strictly_filter}
 use Rattle.psy_history.proofs.SentMessages.{AreClockLaws, HasStreams, message_dates, strictly_messages}
 use Rattle.psy_history.proofs.StartedActions.{start_below, was_started}

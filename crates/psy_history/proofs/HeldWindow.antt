@@ -5,6 +5,7 @@ use Rattle.std.specs.List.{Contains}
 use Rattle.std.proofs.lemmas.Bool.{leb-false, ltb-true}
 use Rattle.std.proofs.lemmas.List.Elements.{All-head, All-tail}
 use Rattle.psy_base.specs.declared.message.Message.{Message}
+use Rattle.psy_lists.proofs.lemmas.Members.{contains_none, front_or_behind, get_or_holds}
 use Rattle.psy_clock.specs.declared.clock.Clock.{Clock}
 use Rattle.psy_clock.specs.Dates.{IsClock, after_date, from_date}
 use Rattle.psy_code.specs.declared.look.Sent.{Sent}
@@ -18,7 +19,6 @@ use Rattle.psy_history.specs.Visible.{is_fresh, message_of, swept}
 use Rattle.psy_meaning.specs.Ways.{sending_of}
 use Rattle.psy_history.specs.Regular.{IsLawful, IsRegular}
 use Rattle.psy_history.proofs.Deadlines.{deadline_least, some_follows}
-use Rattle.psy_history.proofs.Members.{contains_none, front_or_behind, get_or_holds}
 use Rattle.psy_history.proofs.NextStarts.{next_late, regular_head}
 use Rattle.psy_history.proofs.SentMessages.{HasStreams}
 use Rattle.psy_history.proofs.Timings.{every_tick}

@@ -5,6 +5,7 @@ use Rattle.std.proofs.lemmas.Bool.{cases_Bool}
 use Rattle.std.proofs.lemmas.List.Elements.{All-head}
 use Rattle.std.specs.List.{All, Contains, count_by}
 use Rattle.std.specs.Prelude.{ℤ, ◌==◌, Bool, true, false, if◌then◌else◌, nat_lt, take}
+use Rattle.psy_lists.proofs.lemmas.Members.{contains_front}
 use Rattle.psy_budget.specs.declared.charge.Stall.{Stall}
 use Rattle.psy_code.specs.Views.{Deeds, View}
 use Rattle.psy_tree.specs.declared.unit.Unit.{Unit as Whole}
@@ -19,7 +20,6 @@ use Rattle.psy_history.specs.Feeding.{AreSame, IsSame, OverranAlike, Reaches}
 use Rattle.psy_history.proofs.ActsAlike.{acts_alike}
 use Rattle.psy_history.proofs.Growth.{stays_started}
 use Rattle.psy_history.proofs.IsolatedViews.{messages_same, pasts_same, taken_same}
-use Rattle.psy_history.proofs.Members.{contains_front}
 use Rattle.psy_history.proofs.SameActions.{next_same}
 use Rattle.psy_history.proofs.StatedHistories.{AreTextLaws, IsOfAgent, all_of_text, next_known}
 

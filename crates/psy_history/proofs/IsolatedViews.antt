@@ -11,6 +11,7 @@ use Rattle.std.proofs.lemmas.Option.{get_or_from_slice_get, slice_get-get_or, sl
 use Rattle.std.specs.List.{All, Contains, count_by, filter, flat_map, range_with_len}
 use Rattle.std.specs.Prelude.{ℤ, ◌==◌, Bool, true, cond, if◌then◌else◌, nat_le, nat_lt, slice_get, take}
 use Rattle.psy_base.specs.declared.message.Message.{Message}
+use Rattle.psy_lists.proofs.lemmas.Members.{contains_none, contains_front, contains_behind, filter_in, filter_from}
 use Rattle.psy_budget.specs.declared.charge.Stall.{Stall}
 use Rattle.psy_clock.specs.Dates.{count, date}
 use Rattle.psy_code.specs.declared.look.Sent.{Sent}
@@ -26,7 +27,6 @@ use Rattle.psy_meaning.specs.Ways.{Sending, sending_of}
 use Rattle.psy_history.specs.Compiled.{stated}
 use Rattle.psy_history.specs.Feeding.{AreSame, Reaches, by_chain, by_stream, by_variable, pasts_in}
 use Rattle.psy_history.proofs.LikeActions.{flat_map_same}
-use Rattle.psy_history.proofs.Members.{contains_behind, contains_front, contains_none, filter_from, filter_in}
 use Rattle.psy_history.proofs.SameActions.{committed_same, messages_of_same, untaken_same}
 use Rattle.psy_history.proofs.StatedHistories.{IsOfAgent}
 

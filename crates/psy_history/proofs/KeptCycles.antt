@@ -5,6 +5,8 @@ use Rattle.std.specs.List.{All, Contains}
 use Rattle.std.proofs.lemmas.Bool.{cases_eq, cases_lt, eq-eqb, ne_eqb}
 use Rattle.std.proofs.lemmas.List.Elements.{All-contains, All-head}
 use Rattle.psy_base.specs.declared.edge.Edge.{Edge}
+use Rattle.psy_history.proofs.lemmas.MoreUnits.{units_more}
+use Rattle.psy_lists.proofs.lemmas.Members.{contains_none, front_or_behind}
 use Rattle.psy_history.specs.Actions.{Action, History, System}
 use Rattle.psy_history.specs.Schedule.{Turn, pending, soonest, turn_of, units, work}
 use Rattle.psy_history.specs.Asked.{Drawn}
@@ -13,8 +15,7 @@ use Rattle.psy_history.specs.Regular.{IsRegular}
 use Rattle.psy_history.proofs.Edges.{drawn_within}
 use Rattle.psy_history.proofs.Bounds.{Covered, covered_some, covered_unit}
 use Rattle.psy_history.proofs.Totals.{total, total_less}
-use Rattle.psy_history.proofs.Members.{contains_none, front_or_behind}
-use Rattle.psy_history.proofs.Soonest.{IsSoonest, pending_from, pending_in, soonest_is, units_more, units_other, units_own}
+use Rattle.psy_history.proofs.Soonest.{IsSoonest, pending_from, pending_in, soonest_is, units_other, units_own}
 
 -- The cycles that the last of these actions has had
 abbrev pub had_of : List (Option Turn) → List Action → ℕ

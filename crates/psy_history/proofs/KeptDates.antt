@@ -5,6 +5,7 @@ use Rattle.std.specs.Prelude.{false}
 use Rattle.std.proofs.lemmas.Bool.{cases_lt, le-ltb}
 use Rattle.std.proofs.lemmas.List.Elements.{All-contains}
 use Rattle.std.proofs.lemmas.Nat.{div-mul-add}
+use Rattle.psy_lists.proofs.lemmas.Members.{contains_none, contains_front, all_members}
 use Rattle.psy_history.specs.Actions.{Action, History, System}
 use Rattle.psy_history.specs.History.{action_of, history}
 use Rattle.psy_history.specs.Schedule.{Turn, is_pending, pending, soonest, turn_of, units, work}
@@ -16,7 +17,6 @@ use Rattle.psy_history.proofs.Edges.{drawn_of, drawn_within}
 use Rattle.psy_history.proofs.Bounds.{Rests, RestsBy, covered_quiet, covered_some, covered_start}
 use Rattle.psy_history.proofs.Totals.{demand_total, total, total_above}
 use Rattle.psy_history.proofs.Growth.{IsGrown, grown}
-use Rattle.psy_history.proofs.Members.{all_members, contains_front, contains_none}
 use Rattle.psy_history.proofs.OwnAgents.{edges_count, edges_own, served_from, served_in}
 use Rattle.psy_history.proofs.Turns.{serving, units_rise}
 use Rattle.psy_history.proofs.NextStarts.{ends_before, next_late, older_due, regular_head}

@@ -4,12 +4,12 @@ use Rattle.std.specs.List.{All, AllPairs, Contains}
 use Rattle.std.proofs.lemmas.Bool.{le-leb, leb-true}
 use Rattle.std.proofs.lemmas.List.Elements.{All-head, All-tail}
 use Rattle.std.proofs.lemmas.List.Kept.{AllPairs-cons}
+use Rattle.psy_lists.proofs.lemmas.Members.{contains_none, front_or_behind, all_members}
 use Rattle.psy_history.specs.Actions.{Action, Next, System, Verdict, Done, Trapped, Overran, is_done_by, next_of}
 use Rattle.psy_history.specs.History.{action_of, history}
 use Rattle.psy_history.specs.Visible.{seen_at}
 use Rattle.psy_history.specs.Regular.{IsLawful, IsRegular, WereStarted}
 use Rattle.psy_history.proofs.Growth.{grown, next_done}
-use Rattle.psy_history.proofs.Members.{all_members, contains_none, front_or_behind}
 
 -- ---- the last action
 

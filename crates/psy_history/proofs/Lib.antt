@@ -34,7 +34,6 @@ mod LikeSchedules
 mod LikeViews
 mod LookAges
 mod LooksOfCode
-mod Members
 mod MessageOrder
 mod MessagePlaces
 mod MessagesOfSends
@@ -87,3 +86,4 @@ mod Turns
 mod UnitCycles
 mod ViewsAlike
 mod ViewsServe
+pub mod lemmas

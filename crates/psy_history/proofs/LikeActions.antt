@@ -2,9 +2,9 @@
 use Rattle.std.proofs.Common.{◌≡◌, suc, Bool, true, false, cond, ◌&&◌, List, [], ◌∷◌, ◌++◌, map, length, refl, sym, ap, ap₂, ◌∙◌, subst}
 use Rattle.std.proofs.Math.Path.{fun_ext}
 use Rattle.std.specs.List.{Contains, filter, flat_map, list_all}
+use Rattle.psy_lists.proofs.lemmas.Members.{contains_front, contains_behind}
 use Rattle.psy_history.specs.Actions.{Action, Verdict, Done, Trapped, Overran}
 use Rattle.psy_history.specs.Likeness.{AreLike, IsLike}
-use Rattle.psy_history.proofs.Members.{contains_behind, contains_front}
 
 -- ---- one action
 

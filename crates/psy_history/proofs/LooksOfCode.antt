@@ -2,13 +2,13 @@
 use Rattle.std.proofs.Common.{◌≡◌, ◌≢◌, ◌⊎◌, ℕ, zero, suc, ◌+◌, ◌<◌, ◌≤◌, List, [], ◌∷◌, Option, Some, None, refl, sym, ap, ◌∙◌, subst, inl, inr, arith}
 use Rattle.std.specs.List.{Contains}
 use Rattle.std.proofs.lemmas.List.Elements.{Contains-append_left, Contains-append_right, Contains-push_cases}
+use Rattle.psy_lists.proofs.lemmas.Members.{contains_none, contains_front}
 use Rattle.psy_code.specs.declared.code.AgentCode.{AgentCode}
 use Rattle.psy_code.specs.declared.code.Code.{Code}
 use Rattle.psy_code.specs.Execution.{Next, NoRun, Ended, RanTo, Run, RunState, Running, Stuck, Trapped, TrappedBy, Went, call_of, deeds_then, go_on, next_of, run_by, run_code, state_then}
 use Rattle.psy_code.specs.Views.{Call, Deeds, Looked, Past, Ready, Send, Take, nothing_done}
 use Rattle.psy_history.proofs.GoingOn.{goes_on}
 use Rattle.psy_history.proofs.LateLooks.{steps_then}
-use Rattle.psy_history.proofs.Members.{contains_front, contains_none}
 
 -- What a run looked at
 abbrev pub looks_of : Run → List Looked

@@ -2,14 +2,15 @@
 use Rattle.std.proofs.Common.{◌≡◌, ◌⊎◌, ◌↔◌, ℕ, zero, suc, ◌<◌, ◌≤◌, Bool, true, false, List, [], ◌∷◌, length, get_or, drop, take, refl, sym, ap, ◌∙◌, subst, inl, inr, arith}
 use Rattle.std.specs.Prelude.{◌==◌, ◌&&◌, nat_le, nat_lt}
 use Rattle.std.specs.List.{All, AllPairs, Contains, filter}
-use Rattle.std.proofs.lemmas.Bool.{and_cases, and_from, and_left, and_parts, and_right, cases_Bool, cases_order, eq-eqb, eqb-true}
+use Rattle.std.proofs.lemmas.Bool.{and_cases, and_from, and_left, and_parts, and_right, cases_Bool, eq-eqb, eqb-true}
 use Rattle.std.proofs.lemmas.Bool.Decides.{nat_tests}
 use Rattle.std.proofs.lemmas.List.Elements.{All-contains, All-tail}
 use Rattle.std.proofs.lemmas.List.Kept.{AllPairs-cons, AllPairs-filter}
 use Rattle.psy_base.specs.declared.message.Message.{Message}
+use Rattle.psy_queue.proofs.lemmas.Orders.{less_true, not_less, before_one_way}
+use Rattle.psy_lists.proofs.lemmas.Members.{contains_none, contains_front, contains_behind, front_or_behind}
 use Rattle.psy_queue.specs.Order.{AreInOrder, comes_before, less_then}
 use Rattle.psy_history.specs.Visible.{is_same}
-use Rattle.psy_history.proofs.Members.{contains_behind, contains_front, contains_none, front_or_behind}
 
 -- The messages stand in order, no two of them the same.
 abbrev pub strictly : List Message → Type 0
@@ -21,25 +22,9 @@ differing = AllPairs (λ m n. is_same m n ≡ false)
 
 -- ---- one number, and what decides where it is the same
 
-less_true : (a b : ℕ) (r : Bool) → less_then a b r ≡ true → (a < b) ⊎ ((a ≡ b) × (r ≡ true))
-less_true a b r h = elim (cases_order a b) [
-  | inl same ↦ inr (same, grind (arith, nat_tests))
-  | inr other ↦ elim other [ inl first ↦ inl first | inr last ↦ absurd (grind (arith, nat_tests)) ]
-]
-
 less_where : (a b : ℕ) (r : Bool) → (a < b) ⊎ ((a ≡ b) × (r ≡ true)) → less_then a b r ≡ true
 less_where a b r (inl h) = grind (arith, nat_tests)
 less_where a b r (inr h) = grind (arith, nat_tests)
-
-not_less : (a b : ℕ) (r : Bool) → less_then a b r ≡ false → (b < a) ⊎ ((a ≡ b) × (r ≡ false))
-not_less a b r h = elim (cases_order a b) [
-  | inl same ↦ inr (same, grind (arith, nat_tests))
-  | inr other ↦ elim other [ inl first ↦ absurd (grind (arith, nat_tests)) | inr last ↦ inl last ]
-]
-
-less_not : (a b : ℕ) (r : Bool) → (b < a) ⊎ ((a ≡ b) × (r ≡ false)) → less_then a b r ≡ false
-less_not a b r (inl h) = grind (arith, nat_tests)
-less_not a b r (inr h) = grind (arith, nat_tests)
 
 chain_then : (a b c : ℕ) (r s t : Bool) → (r ≡ true → s ≡ true → t ≡ true) → less_then a b r ≡ true → less_then b c s ≡ true → less_then a c t ≡ true
 chain_then a b c r s t rest h k = less_where a c t (elim (less_true a b r h) [
@@ -49,12 +34,6 @@ chain_then a b c r s t rest h k = less_where a c t (elim (less_true a b r h) [
 
 chain_last : (a b c : ℕ) → nat_lt a b ≡ true → nat_lt b c ≡ true → nat_lt a c ≡ true
 chain_last a b c h k = grind (arith, nat_tests)
-
-one_way_then : (a b : ℕ) (r s : Bool) → (r ≡ true → s ≡ false) → less_then a b r ≡ true → less_then b a s ≡ false
-one_way_then a b r s rest h = less_not b a s (elim (less_true a b r h) [ inl p ↦ inl p | inr p ↦ inr (sym p.0, rest p.1) ])
-
-one_way_last : (a b : ℕ) → nat_lt a b ≡ true → nat_lt b a ≡ false
-one_way_last a b h = grind (arith, nat_tests)
 
 other_then : (a b : ℕ) (r s same : Bool) → (same ≡ false → r ≡ false → s ≡ true) → (a == b && same) ≡ false → less_then a b r ≡ false → less_then b a s ≡ true
 other_then a b r s same rest differs h = less_where b a s (elim (not_less a b r h) [
@@ -79,10 +58,6 @@ differs_last a b h = grind (arith, nat_tests)
 -- What comes before another comes before what comes behind that one.
 pub before_trans : (l m n : Message) → comes_before l m ≡ true → comes_before m n ≡ true → comes_before l n ≡ true
 before_trans l m n = chain_then l.visible m.visible n.visible _ _ _ (chain_then l.entry m.entry n.entry _ _ _ (chain_then l.sender m.sender n.sender _ _ _ (chain_last l.number m.number n.number)))
-
--- Of two messages one at most comes before the other.
-pub before_one_way : (m n : Message) → comes_before m n ≡ true → comes_before n m ≡ false
-before_one_way m n = one_way_then m.visible n.visible _ _ (one_way_then m.entry n.entry _ _ (one_way_then m.sender n.sender _ _ (one_way_last m.number n.number)))
 
 -- Of two messages that aren't the same one comes before the other.
 pub before_or_after : (m n : Message) → is_same m n ≡ false → comes_before m n ≡ false → comes_before n m ≡ true

@@ -3,10 +3,10 @@ use Rattle.std.proofs.Common.{◌≡◌, ◌⊎◌, ◌↔◌, Bool, true, false
 use Rattle.std.specs.List.{All, Contains}
 use Rattle.std.proofs.lemmas.List.Elements.{All-contains, All-tail}
 use Rattle.psy_base.specs.declared.message.Message.{Message}
+use Rattle.psy_lists.proofs.lemmas.Members.{contains_none, contains_front, contains_behind, front_or_behind, all_members}
 use Rattle.psy_queue.specs.Order.{comes_before, put_in_order}
 use Rattle.psy_history.specs.Visible.{in_order, is_same}
 use Rattle.psy_history.specs.Queues.{entered}
-use Rattle.psy_history.proofs.Members.{all_members, contains_behind, contains_front, contains_none, front_or_behind}
 use Rattle.psy_history.proofs.MessageOrder.{before_or_after, before_trans, differing, differs_back, pairs_head, pairs_none, pairs_tail, strict_cons, strict_head, strict_tail, strictly}
 
 -- ---- one message

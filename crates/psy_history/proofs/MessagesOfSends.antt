@@ -5,10 +5,10 @@ use Rattle.std.specs.List.{Contains, count_by}
 use Rattle.std.proofs.lemmas.Bool.{cases_Bool, cond-false, cond-true, eqb-true}
 use Rattle.std.proofs.lemmas.List.Sums.{length-filter}
 use Rattle.psy_base.specs.declared.message.Message.{Message}
+use Rattle.psy_lists.proofs.lemmas.Members.{contains_none, contains_front, contains_behind, front_or_behind}
 use Rattle.psy_code.specs.declared.look.Sent.{Sent}
 use Rattle.psy_history.specs.Actions.{System}
 use Rattle.psy_history.specs.Visible.{message_of, messages_from}
-use Rattle.psy_history.proofs.Members.{contains_behind, contains_front, contains_none, front_or_behind}
 
 module _ (s : System) (stream agent end : ℕ) where
   -- The message is that of a send to the stream.

@@ -2,11 +2,11 @@
 use Rattle.std.proofs.Common.{◌≡◌, ℕ, zero, suc, ◌<◌, ◌≤◌, List, [], ◌∷◌, drop, Some, sym, ap, ◌∙◌, subst, inl, inr, arith}
 use Rattle.std.specs.List.{All, Contains}
 use Rattle.std.proofs.lemmas.List.Elements.{All-head, All-tail}
+use Rattle.psy_lists.proofs.lemmas.Members.{contains_none, contains_behind, front_or_behind}
 use Rattle.psy_history.specs.Actions.{Action, Next, System, next_of}
 use Rattle.psy_history.specs.History.{action_of, history}
 use Rattle.psy_history.specs.Regular.{IsLawful, IsRegular, WereStarted}
 use Rattle.psy_history.proofs.Growth.{grown, next_done}
-use Rattle.psy_history.proofs.Members.{contains_behind, contains_none, front_or_behind}
 
 module _ (s : System) (lawful : IsLawful s) where
   pub regular_head : (date agent : ℕ) (r : Action) (before : List Action) → history s date agent ≡ r ∷ before → IsRegular s agent r

@@ -1,11 +1,11 @@
 -- The numbers of an agent's actions, from that of its first one on: they tell one action from the others, whatever the dates.
 use Rattle.std.proofs.Common.{◌≡◌, ℕ, suc, ◌+◌, ◌<◌, ◌≤◌, List, [], ◌∷◌, length, Some, sym, ap, ◌∙◌, subst, inl, inr, arith}
 use Rattle.std.specs.List.{Contains}
+use Rattle.psy_lists.proofs.lemmas.Members.{contains_none, front_or_behind}
 use Rattle.psy_history.specs.Actions.{Action, Next, System, next_of}
 use Rattle.psy_history.specs.History.{action_of, history}
 use Rattle.psy_history.specs.Regular.{WereStarted, first_number, number_of as number_in}
 use Rattle.psy_history.proofs.Growth.{at_each_date, next_done, stays_started}
-use Rattle.psy_history.proofs.Members.{contains_none, front_or_behind}
 
 -- ---- actions that were started
 

@@ -8,6 +8,7 @@ use Rattle.std.proofs.lemmas.List.Elements.{All-contains, All-get_or}
 use Rattle.std.proofs.lemmas.List.FromFn.{fill_by_all}
 use Rattle.std.proofs.lemmas.Option.{same_Some, slice_get-get_or}
 use Rattle.psy_base.specs.declared.message.Message.{Message}
+use Rattle.psy_lists.proofs.lemmas.Members.{contains_front}
 use Rattle.psy_clock.specs.declared.clock.Clock.{Clock}
 use Rattle.psy_clock.specs.Dates.{IsClock, count, date}
 use Rattle.psy_code.specs.declared.code.Code.{Code}
@@ -26,7 +27,6 @@ use Rattle.psy_history.proofs.ClockDates.{AreCounted, count_of_date}
 use Rattle.psy_history.proofs.Growth.{grown}
 use Rattle.psy_history.proofs.HeldMessages.{contains_queue, fresh_late, strictly_queue}
 use Rattle.psy_history.proofs.LastActions.{ended_by}
-use Rattle.psy_history.proofs.Members.{contains_front}
 use Rattle.psy_history.proofs.MessageOrder.{same_messages}
 use Rattle.psy_history.proofs.OpenedStarts.{start_behind}
 use Rattle.psy_history.proofs.SentMessages.{AreClockLaws, HasStreams, IsBefore, contains_messages, entered_behind}

@@ -2,11 +2,11 @@
 use Rattle.std.proofs.Common.{◌≡◌, ℕ, suc, ◌≤◌, List, [], ◌∷◌, Some, ap, inl, inr, arith}
 use Rattle.std.specs.List.{All, Contains}
 use Rattle.std.proofs.lemmas.List.Elements.{All-head, All-tail}
+use Rattle.psy_lists.proofs.lemmas.Members.{contains_none, front_or_behind}
 use Rattle.psy_history.specs.Actions.{Action, Next, System, next_of}
 use Rattle.psy_history.specs.History.{history}
 use Rattle.psy_history.specs.Regular.{IsLawful, IsRegular, WereStarted}
 use Rattle.psy_history.proofs.Growth.{next_done}
-use Rattle.psy_history.proofs.Members.{contains_none, front_or_behind}
 
 module _ (s : System) (ahead : (agent : ℕ) (n : Next) → s.opening.starts agent ≡ Some n → s.opening.dates ≤ suc n.start) (dates agent : ℕ) where
   -- where the next one starts

@@ -8,13 +8,14 @@ use Rattle.std.proofs.lemmas.List.Elements.{All-contains, Contains-get_or}
 use Rattle.std.proofs.lemmas.List.Sums.{sum_by-cons}
 use Rattle.std.proofs.lemmas.Option.{slice_get-get_or}
 use Rattle.psy_base.specs.declared.limits.TheConstants.{QUEUE}
+use Rattle.psy_lists.proofs.lemmas.Members.{contains_front, contains_behind}
 use Rattle.psy_code.specs.declared.code.AgentCode.{AgentCode}
 use Rattle.psy_code.specs.declared.code.Code.{Code}
 use Rattle.psy_code.specs.declared.look.Sent.{Sent}
 use Rattle.psy_code.specs.Execution.{Run, RunState, Running, call_of, deeds_then, run_by, run_code, state_then}
 use Rattle.psy_code.specs.Views.{Send}
 use Rattle.psy_history.specs.Actions.{Action, System, timing}
-use Rattle.psy_history.specs.Executors.{agent_code_at}
+use Rattle.psy_meaning.specs.CodeWays.{agent_code_at}
 use Rattle.psy_base.specs.Extremes.{IsGreatest}
 use Rattle.psy_meaning.specs.Timing.{following}
 use Rattle.psy_history.specs.Regular.{MayAsk, begun_by}
@@ -24,7 +25,6 @@ use Rattle.psy_history.specs.Ways.{IsSentBy, SendsAtMost, sends_in}
 use Rattle.psy_meaning.specs.QueueSizes.{AreQueues, AreSendsBelow, HasSendsTo, IsSizeFor, IsSpread, IsSpreadBelow}
 use Rattle.psy_history.proofs.AskedCalls.{deeds_of, sent_asked_for}
 use Rattle.psy_history.proofs.GoingOn.{goes_on}
-use Rattle.psy_history.proofs.Members.{contains_behind, contains_front}
 use Rattle.psy_history.proofs.RunActions.{AreRunLaws, point_known}
 use Rattle.psy_history.proofs.RunHistories.{IsOwn}
 use Rattle.psy_history.proofs.RunsWithin.{able_at, one_more, stands_well, well}

@@ -10,6 +10,7 @@ use Rattle.std.proofs.lemmas.Option.{get_or_from_slice_get, slice_get-get_or, sl
 use Rattle.psy_base.specs.declared.edge.Edge.{Edge}
 use Rattle.psy_base.specs.declared.limits.TheConstants.{PROCESSORS}
 use Rattle.psy_base.specs.Extremes.{most_of}
+use Rattle.psy_lists.proofs.lemmas.Members.{filter_in, filter_from}
 use Rattle.psy_tree.specs.declared.unit.AgentDecl.{AgentDecl}
 use Rattle.psy_tree.specs.declared.unit.Unit.{Unit as Whole}
 use Rattle.psy_tree.specs.Parts.{homes}
@@ -17,7 +18,6 @@ use Rattle.psy_meaning.specs.Demand.{edges_on}
 use Rattle.psy_meaning.specs.Units.{IsBare, IsBareAgent}
 use Rattle.psy_history.specs.Processors.{edges_for, processor_at, processors, served}
 use Rattle.psy_history.proofs.HeldWindow.{most_below}
-use Rattle.psy_history.proofs.Members.{filter_from, filter_in}
 
 -- Nothing in a list is greater than the greatest.
 most_at : (numbers : List ℕ) (k : ℕ) → get_or numbers k 0 ≤ most_of numbers

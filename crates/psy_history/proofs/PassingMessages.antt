@@ -5,9 +5,9 @@ use Rattle.std.specs.List.{Contains}
 use Rattle.std.proofs.lemmas.Bool.{cases_Bool}
 use Rattle.std.proofs.lemmas.List.Elements.{filter-append}
 use Rattle.psy_base.specs.declared.message.Message.{Message}
+use Rattle.psy_lists.proofs.lemmas.Members.{contains_front, contains_behind, filter_from}
 use Rattle.psy_queue.specs.Order.{comes_before, put_in_order}
 use Rattle.psy_history.specs.Visible.{in_order}
-use Rattle.psy_history.proofs.Members.{contains_behind, contains_front, filter_from}
 
 -- ---- two tests
 
@@ -31,13 +31,6 @@ filter_fewer p q (x ∷ xs) weaker =
         | inr not ↦ rw fails (rw not rest)
       ]
     ]
-
--- No more than there are
-pub filter_less : {X : Type 0} (p : X → Bool) (xs : List X) → length (filter p xs) ≤ length xs
-filter_less p [] = omega arith
-filter_less p (x ∷ xs) =
-    let rest = filter_less p xs in
-    elim (cases_Bool (p x)) [ inl passes ↦ rw passes (omega (arith, rest)) | inr fails ↦ rw fails (omega (arith, rest)) ]
 
 -- ---- of messages in order
 

@@ -1,12 +1,12 @@
 -- What a variable published at a date stays so, whatever starts at later ones, and is found from each date that it is looked at from.
 use Rattle.std.proofs.Common.{◌≡◌, ℕ, zero, suc, ◌+◌, ◌-◌, ◌<◌, ◌≤◌, Option, Some, None, refl, sym, ap, ◌∙◌, inl, inr, arith}
 use Rattle.std.specs.Prelude.{ℤ, nat_le, nat_lt, if◌then◌else◌}
-use Rattle.std.proofs.lemmas.Bool.{cases_lt, cond-false, cond-true, le-ltb, lt-leb, lt-ltb}
+use Rattle.std.proofs.lemmas.Bool.{cases_lt, cond-false, cond-true, le-ltb, lt-ltb}
+use Rattle.psy_history.proofs.lemmas.Commits.{not_yet}
 use Rattle.psy_clock.specs.Dates.{date}
-use Rattle.psy_history.specs.Actions.{Action, History, System, Verdict, Done, Trapped, Overran, publishing, variable_of}
-use Rattle.psy_history.specs.Executors.{Carried}
+use Rattle.psy_history.specs.Actions.{Action, History, System, publishing, variable_of}
 use Rattle.psy_history.specs.History.{action_of, history}
-use Rattle.psy_history.specs.Visible.{commit, committed_in, published, published_before, published_behind, published_by}
+use Rattle.psy_history.specs.Visible.{committed_in, published, published_before, published_behind, published_by}
 use Rattle.psy_history.specs.Regular.{IsLawful}
 use Rattle.psy_history.proofs.Growth.{grown, kept_on}
 use Rattle.psy_history.proofs.NextStarts.{regular_head}
@@ -14,12 +14,6 @@ use Rattle.psy_history.proofs.NextStarts.{regular_head}
 -- Of a variable of which so many dates are counted, the value that it published so many before the last one, or its first value
 abbrev pub value_back : System → History → ℕ → ℕ → ℕ → ℤ
 value_back s h variable counted back = if nat_lt back counted then published s h variable (date (publishing s variable) (counted - 1 - back)) else (variable_of s variable).init
-
--- An action that ends after a date commits nothing by it
-ends_later : (variable by : ℕ) (carried : Carried) (earlier : ℤ) (verdict : Verdict) → ((point end : ℕ) → verdict ≡ Done point end → by < end) → commit variable by carried earlier verdict ≡ earlier
-ends_later variable by carried earlier (Done point end) late = cond-false (nat_le end by) _ _ (lt-leb end by (late point end refl))
-ends_later variable by carried earlier (Trapped kind) late = refl
-ends_later variable by carried earlier Overran late = refl
 
 module _ (s : System) (lawful : IsLawful s) where
   -- nor does one that starts at it
@@ -30,7 +24,7 @@ module _ (s : System) (lawful : IsLawful s) where
         let r : Action = action_of s (history s date) agent n in
         let regular = regular_head s lawful (suc date) agent r (history s date agent) more in
         ap (committed_in s variable by) more
-        ∙ ends_later variable by r.after (committed_in s variable by (history s date agent)) r.verdict (λ point end done. omega (arith, l, regular.due, at, (regular.ends point end done).2)))
+        ∙ not_yet variable by r.after (committed_in s variable by (history s date agent)) r.verdict (λ point end done. omega (arith, l, regular.due, at, (regular.ends point end done).2)))
   ]
 
   committed_stays : (variable by some more agent : ℕ) → by ≤ some → some ≤ more → committed_in s variable by (history s more agent) ≡ committed_in s variable by (history s some agent)

@@ -2,6 +2,7 @@
 use Rattle.std.proofs.Common.{◌≡◌, ℕ, List, [], ◌∷◌, ◌++◌, map, Some, None, sym, subst}
 use Rattle.std.specs.Prelude.{slice_get}
 use Rattle.std.specs.List.{Contains}
+use Rattle.psy_lists.proofs.lemmas.Members.{contains_front, contains_behind}
 use Rattle.psy_tree.specs.declared.unit.Expr.{Expr, roll-Expr, rec-roll-Expr, fold-roll-Expr, map-Expr, ind-Expr}
 use Rattle.psy_tree.specs.declared.unit.Expr.TheOpen.{Expr-F}
 use Rattle.psy_tree.specs.declared.unit.Stmt.{Stmt, roll-Stmt, rec-roll-Stmt, fold-roll-Stmt, map-Stmt, ind-Stmt}
@@ -12,7 +13,6 @@ use Rattle.psy_meaning.proofs.lemmas.Eaches.{each-append, each-first, each-secon
 use Rattle.psy_meaning.proofs.lemmas.RestPieces.{PartsHave, PiecesHave, rest_has}
 use Rattle.psy_meaning.proofs.lemmas.SoundParts.{exprs_natural, stmts_natural}
 use Rattle.psy_history.specs.Feeding.{all_pasts, expr_pasts_step, expr_pasts, stmt_pasts_step, stmt_pasts, pasts_in}
-use Rattle.psy_history.proofs.Members.{contains_front, contains_behind}
 
 -- What each member has, each of the list has.
 pub each_member : {X : Type 0} (P : X → Type 0) (xs : List X) → ((x : X) → Contains xs x → P x) → Each P xs

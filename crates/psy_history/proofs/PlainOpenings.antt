@@ -5,6 +5,7 @@ use Rattle.std.specs.Int.{◌∣◌}
 use Rattle.std.proofs.lemmas.Nat.Gcd.{dvd-zero}
 use Rattle.std.proofs.lemmas.List.Elements.{All-nil}
 use Rattle.std.proofs.lemmas.Option.{none-some, slice_get-get_or}
+use Rattle.psy_lists.proofs.lemmas.Members.{all_members, get_or_holds}
 use Rattle.psy_budget.specs.declared.charge.Stall.{Stall}
 use Rattle.psy_code.specs.declared.code.Code.{Code}
 use Rattle.psy_code.specs.Views.{found_in}
@@ -20,7 +21,6 @@ use Rattle.psy_meaning.specs.Graph.{periods}
 use Rattle.psy_meaning.specs.KnownWays.{Ways}
 use Rattle.psy_meaning.specs.Timing.{first, first_date}
 use Rattle.psy_history.proofs.Growth.{opens_with}
-use Rattle.psy_history.proofs.Members.{all_members, get_or_holds}
 use Rattle.psy_history.proofs.MessageOrder.{pairs_none}
 use Rattle.psy_history.proofs.Seeing.{Fits, zero_fits}
 

@@ -5,6 +5,7 @@ use Rattle.std.specs.List.{Contains}
 use Rattle.std.proofs.lemmas.Bool.{and_right, cases_Bool, eqb-true, le-leb, leb-true, lt-leb}
 use Rattle.std.proofs.lemmas.Option.{get_or_from_slice_get}
 use Rattle.psy_base.specs.declared.message.Message.{Message}
+use Rattle.psy_lists.proofs.lemmas.Members.{contains_front, contains_behind, filter_in, filter_from}
 use Rattle.psy_tree.specs.declared.unit.StreamDecl.{StreamDecl}
 use Rattle.psy_history.specs.Actions.{Action, System, Done, is_done, is_done_by, is_silent, stream_of}
 use Rattle.psy_history.specs.History.{history}
@@ -12,7 +13,6 @@ use Rattle.psy_history.specs.Visible.{is_fresh, is_held, is_in_view, is_untaken,
 use Rattle.psy_history.specs.Queues.{queue_of}
 use Rattle.psy_history.proofs.HeldMessages.{StaysThere, contains_queue, from_view, in_view, new_stays, strictly_queue}
 use Rattle.psy_history.proofs.LastActions.{EndedBy, done_by, ended_before, ended_by, last_began}
-use Rattle.psy_history.proofs.Members.{contains_behind, contains_front, filter_from, filter_in}
 use Rattle.psy_history.proofs.MessageOrder.{same_messages, seen_front, strictly_filter}
 use Rattle.psy_history.proofs.NextStarts.{regular_head}
 use Rattle.psy_history.proofs.SentMessages.{AreClockLaws, HasStreams, message_dates, sent_known, strictly_messages}

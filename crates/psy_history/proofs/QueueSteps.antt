@@ -5,12 +5,12 @@ use Rattle.std.specs.List.{Contains}
 use Rattle.std.proofs.Math.Seq.{drop-nil}
 use Rattle.std.proofs.lemmas.Bool.{cases_order, cond_both}
 use Rattle.psy_base.specs.declared.message.Message.{Message}
+use Rattle.psy_lists.proofs.lemmas.Members.{contains_none}
 use Rattle.psy_history.specs.Actions.{System, next_of, stream_of}
 use Rattle.psy_history.specs.History.{history}
 use Rattle.psy_history.specs.Queues.{entered, entering, given_up, queue_of, settled, sweeps}
 use Rattle.psy_history.proofs.EnteringMessages.{contains_entering, differing_entering}
 use Rattle.psy_history.proofs.HeldMessages.{StaysThere, contains_queue, new_stays, strictly_queue}
-use Rattle.psy_history.proofs.Members.{contains_none}
 use Rattle.psy_history.proofs.MessageOrder.{same_messages, strictly, strictly_drop, strictly_filter}
 use Rattle.psy_history.proofs.MessagePlaces.{contains_entered, strictly_entered}
 use Rattle.psy_history.proofs.SentMessages.{AreClockLaws, HasStreams, apart, message_dates}

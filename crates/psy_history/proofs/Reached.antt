@@ -6,6 +6,7 @@ use Rattle.std.proofs.lemmas.Bool.{and_parts, cases_Bool, eq-eqb, eqb-true}
 use Rattle.std.proofs.lemmas.List.Elements.{Contains-append_cases, Contains-append_left, Contains-append_right}
 use Rattle.std.proofs.lemmas.List.FromFn.{get_or-range_with_len, length-range_with_len}
 use Rattle.std.proofs.lemmas.Option.{none-some, same_Some}
+use Rattle.psy_lists.proofs.lemmas.Members.{contains_none, contains_front, contains_behind, front_or_behind, filter_in, filter_from, flat_map_in, flat_map_from}
 use Rattle.psy_budget.specs.Charges.{cycle_of}
 use Rattle.psy_code.specs.Views.{Looked}
 use Rattle.psy_history.specs.Actions.{Action, History, System}
@@ -20,7 +21,6 @@ use Rattle.psy_history.specs.Scheduled.{gone_to, turns_by}
 use Rattle.psy_history.proofs.Given.{given_unstarted}
 use Rattle.psy_history.proofs.Greatest.{greatest_same}
 use Rattle.psy_history.proofs.Growth.{grown, stays_started}
-use Rattle.psy_history.proofs.Members.{contains_behind, contains_front, contains_none, filter_from, filter_in, flat_map_from, flat_map_in, front_or_behind}
 use Rattle.psy_history.proofs.Numbers.{agent_of, next_number, were_started}
 use Rattle.psy_history.proofs.Turns.{serving}
 use Rattle.psy_history.proofs.UnitCycles.{no_unit, unit_stays}

@@ -11,7 +11,7 @@ use Rattle.psy_code.specs.Execution.{NoRun, RanTo, Run, RunState, Running, Stuck
 use Rattle.psy_code.specs.Lasting.{IsOver}
 use Rattle.psy_code.specs.Views.{Call, Looked, Past, Ready, Send, Take}
 use Rattle.psy_history.specs.Actions.{Action, History, System}
-use Rattle.psy_history.specs.Executors.{agent_code_at}
+use Rattle.psy_meaning.specs.CodeWays.{agent_code_at}
 use Rattle.psy_history.specs.History.{history}
 use Rattle.psy_history.specs.Processors.{processor_at}
 use Rattle.psy_history.specs.Schedule.{Turn, cycle_of_unit, turn_of, units}

@@ -5,6 +5,7 @@ use Rattle.std.specs.List.{Contains}
 use Rattle.std.proofs.lemmas.List.Elements.{All-weaker}
 use Rattle.std.proofs.lemmas.Option.{slice_get-get_or}
 use Rattle.psy_base.specs.declared.message.Message.{Message}
+use Rattle.psy_lists.proofs.lemmas.Members.{all_members}
 use Rattle.psy_code.specs.declared.code.AgentCode.{AgentCode}
 use Rattle.psy_code.specs.declared.code.Code.{Code}
 use Rattle.psy_code.specs.Execution.{NoRun, RanTo, Run, RunState, Running, TrappedBy, run_code}
@@ -13,7 +14,8 @@ use Rattle.psy_code.specs.Views.{View}
 use Rattle.psy_tree.specs.declared.unit.AgentDecl.{AgentDecl}
 use Rattle.psy_history.specs.Actions.{Action, Next, System, Done, charge_of, next_by, timing}
 use Rattle.psy_meaning.specs.Alike.{IsViewOf, started}
-use Rattle.psy_history.specs.Executors.{Acted, Carried, Reached, acted_as, agent_code_at, machine_at}
+use Rattle.psy_meaning.specs.CodeWays.{agent_code_at}
+use Rattle.psy_history.specs.Executors.{Acted, Carried, Reached, acted_as, machine_at}
 use Rattle.psy_tree.specs.Parts.{agent_at}
 use Rattle.psy_history.specs.Executors as fate
 use Rattle.psy_history.specs.History.{executed}
@@ -27,7 +29,6 @@ use Rattle.psy_meaning.specs.KnownWays.{Ways}
 use Rattle.psy_history.proofs.AskedCalls.{deeds_of, sends_as, sent_asked_for}
 use Rattle.psy_history.proofs.Deadlines.{deadline_least, due_late}
 use Rattle.psy_history.proofs.Growth.{next_done}
-use Rattle.psy_history.proofs.Members.{all_members}
 use Rattle.psy_history.proofs.OneAction.{some_steps}
 use Rattle.psy_history.proofs.SamePhases.{ComesAgain, end_alike, next_alike}
 use Rattle.psy_history.proofs.Seeing.{LeavesFit}

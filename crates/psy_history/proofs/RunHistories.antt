@@ -10,7 +10,8 @@ use Rattle.psy_code.specs.declared.code.Code.{Code}
 use Rattle.psy_code.specs.Execution.{Copy}
 use Rattle.psy_base.specs.Extremes.{IsGreatest}
 use Rattle.psy_history.specs.Actions.{Action, Next, System, next_of, timing}
-use Rattle.psy_history.specs.Executors.{Carried, agent_code_at}
+use Rattle.psy_meaning.specs.CodeWays.{agent_code_at}
+use Rattle.psy_history.specs.Executors.{Carried}
 use Rattle.psy_tree.specs.Parts.{agent_at}
 use Rattle.psy_meaning.specs.QueueSizes.{MayLast}
 use Rattle.psy_meaning.specs.Timing.{end_date, first, first_date}

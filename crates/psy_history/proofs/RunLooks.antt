@@ -3,13 +3,15 @@ use Rattle.std.proofs.Common.{◌≡◌, ℕ, ◌<◌, List, Some, refl, sym, ap
 use Rattle.std.specs.List.{Contains}
 use Rattle.std.proofs.lemmas.Bool.{cases_lt}
 use Rattle.std.proofs.lemmas.Option.{get_or_from_slice_get}
+use Rattle.psy_meaning.proofs.lemmas.Running.{same_running}
 use Rattle.psy_code.specs.declared.code.AgentCode.{AgentCode}
 use Rattle.psy_code.specs.declared.code.Code.{Code}
 use Rattle.psy_code.specs.Execution.{NoRun, RanTo, Run, RunState, Running, TrappedBy, call_of, run_code}
 use Rattle.psy_code.specs.Lasting.{IsOver}
 use Rattle.psy_code.specs.Views.{Looked}
 use Rattle.psy_history.specs.Actions.{Action, System}
-use Rattle.psy_history.specs.Executors.{acted_as, agent_code_at}
+use Rattle.psy_meaning.specs.CodeWays.{agent_code_at}
+use Rattle.psy_history.specs.Executors.{acted_as}
 use Rattle.psy_history.specs.History.{action_of, history}
 use Rattle.psy_history.specs.Regular.{IsLawful, MayAsk, Runs, begun_by}
 use Rattle.psy_history.specs.Runs.{IsRun}
@@ -17,7 +19,6 @@ use Rattle.psy_meaning.specs.KnownWays.{Ways}
 use Rattle.psy_history.proofs.AskedCalls.{deeds_of, look_asked_for, look_call, looks_as}
 use Rattle.psy_history.proofs.LateLooks.{over_stays}
 use Rattle.psy_history.proofs.LooksOfCode.{looks_of}
-use Rattle.psy_history.proofs.Sights.{same_running}
 use Rattle.psy_history.proofs.StartedActions.{was_started}
 
 looks_done : (run : Run) → (deeds_of run).looks ≡ looks_of run

@@ -2,6 +2,7 @@
 use Rattle.std.proofs.Common.{◌≡◌, ℕ, zero, suc, ◌+◌, ◌<◌, ◌≤◌, length, map, ap, subst, inl, inr, arith}
 use Rattle.std.proofs.lemmas.List.Elements.{All-get_or, All-map}
 use Rattle.psy_base.specs.declared.limits.TheConstants.{QUEUE}
+use Rattle.psy_lists.proofs.lemmas.Members.{all_members}
 use Rattle.psy_code.specs.declared.code.Code.{Code}
 use Rattle.psy_history.specs.Actions.{Next, System, stream_of}
 use Rattle.psy_history.specs.History.{history}
@@ -15,7 +16,6 @@ use Rattle.psy_meaning.specs.KnownWays.{Ways}
 use Rattle.psy_meaning.specs.QueueSizes.{IsQueueSize}
 use Rattle.psy_history.proofs.HeldInSize.{held_in_size}
 use Rattle.psy_history.proofs.HeldWindow.{AreNear, most_below}
-use Rattle.psy_history.proofs.Members.{all_members}
 use Rattle.psy_history.proofs.RunActions.{AreRunLaws}
 use Rattle.psy_history.proofs.RunHistories.{all_by_way, all_sent, lasts_some, lawful}
 use Rattle.psy_history.proofs.RunStreams.{has_streams}

@@ -1,6 +1,7 @@
 -- The streams of a run.
 use Rattle.std.proofs.Common.{◌≤◌, inl, inr, arith}
 use Rattle.std.proofs.lemmas.List.Elements.{All-weaker}
+use Rattle.psy_lists.proofs.lemmas.Members.{get_or_holds}
 use Rattle.psy_code.specs.declared.code.Code.{Code}
 use Rattle.psy_tree.specs.declared.unit.StreamDecl.{StreamDecl}
 use Rattle.psy_history.specs.Actions.{System}
@@ -9,7 +10,6 @@ use Rattle.psy_history.specs.Openings.{IsHeldBefore}
 use Rattle.psy_history.specs.Regular.{IsLawful}
 use Rattle.psy_history.specs.Runs.{IsRun}
 use Rattle.psy_meaning.specs.KnownWays.{Ways}
-use Rattle.psy_history.proofs.Members.{get_or_holds}
 use Rattle.psy_history.proofs.SentMessages.{HasStreams, IsBefore}
 
 -- They have what is asked of streams.

@@ -3,12 +3,14 @@ use Rattle.std.proofs.Common.{◌≡◌, ◌≢◌, ℕ, zero, suc, ◌+◌, ◌
 use Rattle.std.specs.Prelude.{replicate, slice_get}
 use Rattle.std.proofs.lemmas.List.{length-replicate}
 use Rattle.std.proofs.lemmas.List.Elements.{All-weaker}
+use Rattle.psy_meaning.proofs.lemmas.Running.{same_running}
 use Rattle.psy_code.specs.declared.code.AgentCode.{AgentCode}
 use Rattle.psy_code.specs.declared.code.Code.{Code}
 use Rattle.psy_code.specs.Execution.{Next, Went, Ended, Trapped, Stuck, NoRun, RanTo, Run, RunState, Running, TrappedBy, call_of, go_on, next_of as next_machine, run_by, run_code, run_one, standing, state_then}
 use Rattle.psy_code.specs.Lasting.{IsOver}
 use Rattle.psy_history.specs.Actions.{Action, System}
-use Rattle.psy_history.specs.Executors.{agent_code_at, carried_by, machine_at}
+use Rattle.psy_meaning.specs.CodeWays.{agent_code_at}
+use Rattle.psy_history.specs.Executors.{carried_by, machine_at}
 use Rattle.psy_history.specs.History.{history}
 use Rattle.psy_history.specs.Regular.{Goes, MayAsk, Runs, begun_by}
 use Rattle.psy_history.specs.Openings.{MayCarry}
@@ -20,7 +22,7 @@ use Rattle.psy_history.proofs.OneAction.{some_steps}
 use Rattle.psy_history.proofs.Owned.{has_copy}
 use Rattle.psy_history.proofs.RunActions.{AreRunLaws, goes, of_code}
 use Rattle.psy_history.proofs.RunHistories.{IsOwn, all_own}
-use Rattle.psy_history.proofs.Sights.{same_running, sees_as}
+use Rattle.psy_history.proofs.Sights.{sees_as}
 use Rattle.psy_history.proofs.ViewsServe.{serves}
 
 -- ---- runs

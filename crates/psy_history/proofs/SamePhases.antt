@@ -5,6 +5,7 @@ use Rattle.std.specs.List.{Contains}
 use Rattle.std.proofs.Math.Nat.{add-mul-mod_self_right, div-mul_cancel}
 use Rattle.std.proofs.lemmas.List.{get_or-drop, get_or-map, length-drop, length-map}
 use Rattle.std.proofs.lemmas.List.Elements.{All-head, All-tail}
+use Rattle.psy_lists.proofs.lemmas.Members.{all_members, get_or_holds}
 use Rattle.psy_clock.specs.declared.clock.Clock.{Clock}
 use Rattle.psy_clock.specs.Dates.{IsClock, after_date}
 use Rattle.psy_tree.specs.declared.unit.Point.{Point}
@@ -14,7 +15,6 @@ use Rattle.psy_meaning.specs.Timing.{Timing, clock_at, deadline, end_date, follo
 use Rattle.psy_meaning.specs.Timing as may
 use Rattle.psy_history.specs.Regular.{IsRegular, MayStartAlike}
 use Rattle.psy_history.proofs.Deadlines.{some_follows}
-use Rattle.psy_history.proofs.Members.{all_members, get_or_holds}
 use Rattle.psy_history.proofs.Timings.{every_tick}
 
 -- The dates of a clock come again period by period.

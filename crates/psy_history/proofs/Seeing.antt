@@ -10,6 +10,7 @@ use Rattle.std.proofs.lemmas.List.FromFn.{fill_by_all, length-map-range_with_len
 use Rattle.std.proofs.lemmas.Simd.{map-map}
 use Rattle.std.proofs.Math.Facts.{sfits_lit}
 use Rattle.psy_base.specs.declared.message.Message.{Message}
+use Rattle.psy_lists.proofs.lemmas.Members.{all_flat_map, get_or_holds}
 use Rattle.psy_clock.specs.Dates.{count, date}
 use Rattle.psy_code.specs.declared.look.Sent.{Sent}
 use Rattle.psy_code.specs.Execution.{Copy, copy_of}
@@ -22,7 +23,6 @@ use Rattle.psy_history.specs.Executors.{Carried, copy_in}
 use Rattle.psy_meaning.specs.Kept.{IsSentOf}
 use Rattle.psy_meaning.specs.States.{value_or_zero}
 use Rattle.psy_history.specs.Visible.{commit, committed_in, in_order, input_value, message_of, messages, messages_by, messages_from, nth_or_last, past, published, published_before, published_behind, published_by, seen_at, sent_to, values_for, view_of}
-use Rattle.psy_history.proofs.Members.{all_flat_map, get_or_holds}
 
 -- ---- lists
 

@@ -1,13 +1,15 @@
 -- The messages of a stream: who sent each and when it can be seen, that no two are the same, and which dates know of them.
-use Rattle.std.proofs.Common.{◌≡◌, ◌⊎◌, ◌↔◌, ℕ, zero, suc, ◌+◌, ◌-◌, ◌<◌, ◌≤◌, true, false, Some, List, [], ◌∷◌, ◌++◌, length, refl, sym, ap, ◌∙◌, subst, inl, inr, arith}
+use Rattle.std.proofs.Common.{◌≡◌, ◌⊎◌, ◌↔◌, ℕ, zero, suc, ◌+◌, ◌-◌, ◌<◌, ◌≤◌, true, false, Some, List, [], ◌∷◌, length, refl, sym, ap, ◌∙◌, subst, inl, inr, arith}
 use Rattle.std.specs.Prelude.{◌==◌}
 use Rattle.std.specs.List.{All, AllPairs, Contains, flat_map, range_with_len}
 use Rattle.std.proofs.lemmas.Bool.{cases_Bool, cond_both, eqb-true}
-use Rattle.std.proofs.lemmas.List.Elements.{All-append, All-cons, All-contains, All-nil, All-weaker, Contains-append_cases, Contains-append_left, Contains-append_right, Contains-get_or}
+use Rattle.std.proofs.lemmas.List.Elements.{All-cons, All-contains, All-nil, All-weaker, Contains-append_cases, Contains-append_left, Contains-append_right, Contains-get_or}
 use Rattle.std.proofs.lemmas.List.FromFn.{get_or-range_with_len, length-range_with_len}
 use Rattle.std.proofs.lemmas.List.Kept.{AllPairs-cons}
 use Rattle.std.proofs.Math.Nat.{mul-le-mul_right}
 use Rattle.psy_base.specs.declared.message.Message.{Message}
+use Rattle.psy_lists.proofs.lemmas.Ordered.{pairs_append}
+use Rattle.psy_lists.proofs.lemmas.Members.{contains_none, contains_front, contains_behind, front_or_behind, flat_map_in, flat_map_from, get_or_holds}
 use Rattle.psy_clock.specs.declared.clock.Clock.{Clock}
 use Rattle.psy_clock.specs.Dates.{IsClock, after_date, count, from_date}
 use Rattle.psy_code.specs.declared.look.Sent.{Sent}
@@ -19,7 +21,6 @@ use Rattle.psy_history.specs.Regular.{IsLawful, IsRegular}
 use Rattle.psy_history.proofs.ClockDates.{count_rises}
 use Rattle.psy_history.proofs.Growth.{grown, stays_started}
 use Rattle.psy_history.proofs.LastActions.{EndsBefore, actions_in_turn}
-use Rattle.psy_history.proofs.Members.{all_members, contains_behind, contains_front, contains_none, flat_map_from, flat_map_in, front_or_behind, get_or_holds}
 use Rattle.psy_history.proofs.MessageOrder.{before_differs, differing, pairs_head, pairs_none, pairs_tail, same_entry, strictly}
 use Rattle.psy_history.proofs.MessagePlaces.{contains_ordered, strictly_ordered}
 use Rattle.psy_history.proofs.OpenedStarts.{start_behind}
@@ -57,14 +58,6 @@ after_rises c t u k l =
     omega (arith, mul-le-mul_right c.period more)
 
 -- ---- pairs of a list
-
--- Elements of two lists stand in pairs where those of each do, and those across.
-pairs_append : {X : Type 0} (R : X → X → Type 0) (xs ys : List X) → AllPairs R xs → AllPairs R ys → ((x y : X) → Contains xs x → Contains ys y → R x y) → AllPairs R (xs ++ ys)
-pairs_append R [] ys first second across = second
-pairs_append R (x ∷ xs) ys first second across =
-    AllPairs-cons R x (xs ++ ys)
-    (All-append (R x) xs ys (pairs_head R x xs first) (all_members (R x) ys (λ y c. across x y (contains_front x xs) c)))
-    (pairs_append R xs ys (pairs_tail R x xs first) second (λ z y c. across z y (contains_behind x xs z c)))
 
 -- Where elements stand in pairs, so does what is made of them.
 pub pairs_flat_map : {X Y : Type 0} (S : X → X → Type 0) (R : Y → Y → Type 0) (f : X → List Y) → ((x z : X) → S x z → (a b : Y) → Contains (f x) a → Contains (f z) b → R a b)

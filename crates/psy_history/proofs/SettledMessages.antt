@@ -4,6 +4,7 @@ use Rattle.std.specs.Prelude.{◌==◌, ◌&&◌, filter, nat_le, nat_lt}
 use Rattle.std.specs.List.{Contains, count_by, list_any}
 use Rattle.std.proofs.lemmas.Bool.{and_from, and_left, and_parts, cases_Bool, eq-eqb, lt-leb, ltb-true, not-true, not_from_false}
 use Rattle.psy_base.specs.declared.message.Message.{Message}
+use Rattle.psy_lists.proofs.lemmas.Members.{contains_none, front_or_behind, filter_in, filter_from}
 use Rattle.psy_history.specs.Actions.{Action, Next, System, Done, is_done, is_done_by, is_silent, next_by, next_of, stream_of}
 use Rattle.psy_history.specs.History.{action_of, history}
 use Rattle.psy_history.specs.Visible.{is_fresh, is_same, is_untaken, messages, swept, taken}
@@ -11,7 +12,6 @@ use Rattle.psy_history.specs.Queues.{ends_at, given_up, queue_of, settled, sweep
 use Rattle.psy_history.proofs.Growth.{grown, next_done}
 use Rattle.psy_history.proofs.HeldMessages.{StaysThere, contains_queue, fresh_late, strictly_queue}
 use Rattle.psy_history.proofs.LastActions.{ended_before, ended_by, last_began}
-use Rattle.psy_history.proofs.Members.{contains_none, filter_from, filter_in, front_or_behind}
 use Rattle.psy_history.proofs.MessageOrder.{seen_front}
 use Rattle.psy_history.proofs.NextStarts.{regular_head}
 use Rattle.psy_history.proofs.QueueLooks.{seen_held}

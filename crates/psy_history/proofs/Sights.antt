@@ -1,6 +1,7 @@
 -- What a run sees on its way: the pasts that it saw from the start, and messages of the same streams.
 use Rattle.std.proofs.Common.{◌≡◌, ℕ, zero, suc, true, List, [], ◌∷◌, Option, Some, None, refl, ap, subst, ◌∙◌}
 use Rattle.std.specs.Prelude.{ℤ, IsSome, map, slice_get, slice_set}
+use Rattle.psy_meaning.proofs.lemmas.Running.{same_running}
 use Rattle.psy_code.specs.declared.code.AgentCode.{AgentCode}
 use Rattle.psy_code.specs.declared.code.Code.{Code}
 use Rattle.psy_code.specs.Execution.{Next, Went, Ended, Trapped, Stuck, Run, RunState, Running, RanTo, TrappedBy, NoRun, call_of, go_on, next_of, run_by, run_code, run_one, state_then, view_then}
@@ -40,9 +41,6 @@ sees_after view (Send sent) = (refl, refl)
 sees_then : (view : View) (call : Option Call) → SeesAs view (view_then view call)
 sees_then view None = (refl, refl)
 sees_then view (Some call) = sees_after view call
-
-pub same_running : (s t : RunState) → Running s ≡ Running t → s ≡ t
-same_running s t e = cc
 
 sees_one : (s u : RunState) (call : Option Call) (next : Next) → run_by s call next ≡ Running u → SeesAs s.view u.view
 sees_one s u call (Went m) e = subst (λ (t : RunState). SeesAs s.view t.view) (same_running (state_then s call m) u e) (sees_then s.view call)

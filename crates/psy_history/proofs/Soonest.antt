@@ -3,9 +3,9 @@ use Rattle.std.proofs.Common.{◌≡◌, ℕ, suc, ◌<◌, ◌≤◌, List, [],
 use Rattle.std.specs.Prelude.{nat_le, filter}
 use Rattle.std.specs.List.{Contains}
 use Rattle.std.proofs.lemmas.Bool.{cases_Bool, leb-true, leb-false, ltb-true, lt-ltb, eq-eqb, ne_eqb}
+use Rattle.psy_lists.proofs.lemmas.Members.{contains_none, contains_front, contains_behind, front_or_behind, filter_in, filter_from, flat_map_in, flat_map_from}
 use Rattle.psy_history.specs.Actions.{Action, History}
-use Rattle.psy_history.specs.Schedule.{Turn, is_of, is_pending, pending, soonest, sooner, turn_of, units, work}
-use Rattle.psy_history.proofs.Members.{contains_behind, contains_front, contains_none, filter_from, filter_in, flat_map_from, flat_map_in, front_or_behind}
+use Rattle.psy_history.specs.Schedule.{Turn, is_pending, pending, soonest, sooner, turn_of, units, work}
 
 -- ---- pending actions
 
@@ -46,12 +46,6 @@ soonest_is [] = contains_none
 soonest_is (r ∷ actions) = sooner_is r actions (soonest actions) (soonest_is actions)
 
 -- ---- units
-
-pub units_more : (agent number : ℕ) (turn : Option Turn) (turns : List (Option Turn)) → units agent number turns ≤ units agent number (turn ∷ turns)
-units_more agent number turn turns = elim (cases_Bool (is_of agent number turn)) [
-  | inl t ↦ rw t (omega arith)
-  | inr t ↦ rw t (omega arith)
-]
 
 -- A cycle of an action is one of its units,
 pub units_own : (r : Action) (turns : List (Option Turn)) → units r.agent r.number (turn_of (Some r) ∷ turns) ≡ suc (units r.agent r.number turns)

@@ -1,10 +1,10 @@
 -- How an action of a lawful system was started.
 use Rattle.std.proofs.Common.{◌≡◌, ℕ, ◌<◌, List, [], ◌∷◌, ap, subst, inl, inr, arith}
 use Rattle.std.specs.List.{Contains}
+use Rattle.psy_lists.proofs.lemmas.Members.{contains_none, front_or_behind}
 use Rattle.psy_history.specs.Actions.{Action, System}
 use Rattle.psy_history.specs.History.{history}
 use Rattle.psy_history.specs.Regular.{IsLawful, WasStarted, WereStarted}
-use Rattle.psy_history.proofs.Members.{contains_none, front_or_behind}
 
 one_started : (s : System) (dates agent : ℕ) (actions : List Action) (r : Action) → WereStarted s dates agent actions → Contains actions r → (before : List Action) × WasStarted s dates agent before r
 one_started s dates agent [] r were c = absurd (contains_none r c)

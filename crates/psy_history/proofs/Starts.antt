@@ -9,7 +9,8 @@ use Rattle.psy_tree.specs.declared.unit.AgentDecl.{AgentDecl}
 use Rattle.psy_tree.specs.declared.unit.Unit.{Unit as Whole}
 use Rattle.psy_history.specs.Actions.{Next, System, Done, Overran, timing, verdict_by, verdict_of}
 use Rattle.psy_meaning.specs.Alike.{IsViewOf, started}
-use Rattle.psy_history.specs.Executors.{Acted, Fate, Reached, Unfinished, acted_by, agent_code_at, by_statements, machine_at}
+use Rattle.psy_meaning.specs.CodeWays.{agent_code_at}
+use Rattle.psy_history.specs.Executors.{Acted, Fate, Reached, Unfinished, acted_by, by_statements, machine_at}
 use Rattle.psy_tree.specs.Parts.{agent_at}
 use Rattle.psy_history.specs.Executors as fate
 use Rattle.psy_meaning.specs.States.{Halts}

@@ -7,6 +7,7 @@ use Rattle.std.specs.List.{All, Contains}
 use Rattle.std.proofs.lemmas.List.Elements.{All-cons, All-nil}
 use Rattle.std.proofs.lemmas.Option.{slice_get-get_or}
 use Rattle.psy_base.specs.declared.message.Message.{Message}
+use Rattle.psy_lists.proofs.lemmas.Members.{contains_map, get_or_holds}
 use Rattle.psy_budget.specs.declared.charge.Stall.{Stall}
 use Rattle.psy_code.specs.declared.look.Sent.{Sent}
 use Rattle.psy_code.specs.Views.{View, nothing_done}
@@ -30,7 +31,6 @@ use Rattle.psy_meaning.specs.Ways.{IsWay, Meter, Sending, met_by, sending_of}
 use Rattle.psy_history.specs.Compiled.{AreInputs, stated}
 use Rattle.psy_history.proofs.Cuts.{store_back}
 use Rattle.psy_history.proofs.Growth.{at_each_date, next_done, opens_with}
-use Rattle.psy_history.proofs.Members.{contains_map, get_or_holds}
 use Rattle.psy_history.proofs.Seeing.{Fits, LeavesFit, MessageFits, sees, zero_fits}
 use Rattle.psy_history.proofs.Starts.{done_of}
 use Rattle.psy_history.proofs.Stores.{IsReady}

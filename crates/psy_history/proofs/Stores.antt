@@ -12,7 +12,8 @@ use Rattle.psy_tree.specs.declared.unit.AgentDecl.{AgentDecl}
 use Rattle.psy_tree.specs.declared.unit.Unit.{Unit as Whole}
 use Rattle.psy_history.specs.Actions.{Next}
 use Rattle.psy_meaning.specs.Alike.{AgentAlike, EndsAs, IsStoreOf, IsViewOf, begun, first_store, started}
-use Rattle.psy_history.specs.Executors.{Carried, agent_code_at, by_code, carried_in, machine_at, store_of}
+use Rattle.psy_meaning.specs.CodeWays.{agent_code_at}
+use Rattle.psy_history.specs.Executors.{Carried, by_code, carried_in, machine_at, store_of}
 use Rattle.psy_tree.specs.Parts.{agent_at}
 use Rattle.psy_meaning.specs.Kept.{IsKept}
 use Rattle.psy_meaning.specs.Rest.{rest}

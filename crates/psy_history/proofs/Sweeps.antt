@@ -4,10 +4,10 @@ use Rattle.std.specs.Prelude.{nat_le}
 use Rattle.std.specs.List.{Contains}
 use Rattle.std.proofs.lemmas.Bool.{and_cases, and_left, and_right, cases_Bool, eq-eqb, eqb-false, eqb-true, le-leb, ne_eqb}
 use Rattle.std.proofs.lemmas.Bool.Decides.{nat_tests}
+use Rattle.psy_lists.proofs.lemmas.Members.{contains_front}
 use Rattle.psy_history.specs.Actions.{Action, Next, System, Verdict, Done, Trapped, Overran, is_done, is_done_by, is_silent, next_by, next_of, rests}
 use Rattle.psy_history.specs.Visible.{swept, taken}
 use Rattle.psy_history.specs.Queues.{ends_at, given_up, sweeps}
-use Rattle.psy_history.proofs.Members.{contains_front}
 
 -- ---- verdicts at a date and one later
 

@@ -5,10 +5,10 @@ use Rattle.std.specs.List.{Contains, count_by, list_all, list_any}
 use Rattle.std.proofs.lemmas.Bool.{and_from, or_from, or_parts}
 use Rattle.std.proofs.lemmas.List.Elements.{All-contains}
 use Rattle.psy_base.specs.declared.message.Message.{Message}
+use Rattle.psy_lists.proofs.lemmas.Members.{contains_none, contains_front, contains_behind, front_or_behind}
 use Rattle.psy_queue.specs.Order.{comes_before}
 use Rattle.psy_history.specs.Actions.{Action, is_done_by}
 use Rattle.psy_history.specs.Visible.{is_same, is_untaken, taken}
-use Rattle.psy_history.proofs.Members.{contains_behind, contains_front, contains_none, front_or_behind}
 use Rattle.psy_history.proofs.MessageOrder.{before_differs, differs_back, same_self, strict_head, strict_tail, strictly}
 
 -- ---- tests of members

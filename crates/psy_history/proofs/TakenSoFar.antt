@@ -8,6 +8,7 @@ use Rattle.std.proofs.lemmas.List.FromFn.{get_or-map-range_with_len, length-map-
 use Rattle.std.proofs.lemmas.List.Sums.{sum_by_push}
 use Rattle.std.proofs.lemmas.Option.{get_or_from_slice_get, slice_get-get_or, slice_get_within}
 use Rattle.psy_base.specs.declared.message.Message.{Message}
+use Rattle.psy_meaning.proofs.lemmas.Running.{same_running}
 use Rattle.psy_code.specs.declared.code.AgentCode.{AgentCode}
 use Rattle.psy_code.specs.declared.code.Code.{Code}
 use Rattle.psy_code.specs.Execution.{Next, Went, Ended, Trapped, Stuck, Run, RunState, Running, RanTo, TrappedBy, NoRun, call_of, deeds_then, go_on, next_of, run_by, run_code, run_one, state_then, view_then}
@@ -17,7 +18,6 @@ use Rattle.psy_history.specs.Actions.{Action, History, System, stream_of}
 use Rattle.psy_history.specs.History.{action_of, history}
 use Rattle.psy_history.specs.Visible.{seen_at, values_for, view_of}
 use Rattle.psy_history.specs.Regular.{IsLawful, WasStarted, begun_by}
-use Rattle.psy_history.proofs.Sights.{same_running}
 use Rattle.psy_history.proofs.StartedActions.{was_started}
 
 -- ---- messages by stream

@@ -1,8 +1,10 @@
 -- Points of an agent: their budgets, which may follow which, and that actions end behind their starts.
-use Rattle.std.proofs.Common.{◌≡◌, ℕ, zero, suc, ◌<◌, ◌≤◌, List, [], ◌∷◌, length, get_or, Some, refl, ap, subst, arith}
+use Rattle.std.proofs.Common.{◌≡◌, ℕ, zero, suc, ◌<◌, ◌≤◌, List, [], ◌∷◌, length, get_or, Some, ap, subst, arith}
 use Rattle.std.specs.Prelude.{slice_get}
 use Rattle.std.specs.List.{Contains}
 use Rattle.std.proofs.lemmas.Option.{get_or_from_slice_get, slice_get-get_or, slice_get_within}
+use Rattle.psy_lists.proofs.lemmas.Places.{listed_at}
+use Rattle.psy_lists.proofs.lemmas.Members.{get_or_holds}
 use Rattle.psy_clock.specs.declared.clock.Clock.{Clock}
 use Rattle.psy_clock.specs.Dates.{IsClock, after_date}
 use Rattle.psy_tree.specs.declared.unit.AgentDecl.{AgentDecl}
@@ -11,16 +13,9 @@ use Rattle.psy_tree.specs.declared.unit.Unit.{Unit as Whole}
 use Rattle.psy_meaning.specs.Flow.{AreNexts, IsNext}
 use Rattle.psy_meaning.specs.Timing.{Timing, timing_of, budget_at, clock_at, end_date, following, point_at}
 use Rattle.psy_meaning.specs.Units.{HasHead, IsBare, IsBareAgent, IsBarePoint}
-use Rattle.psy_history.proofs.Members.{get_or_holds}
 use Rattle.psy_tree.specs.Parts.{no_clock}
 
 -- ---- parts by number
-
--- A list that has a member is there.
-pub listed : (nexts : List (List ℕ)) (point to : ℕ) → Contains (get_or nexts point []) to → slice_get nexts point ≡ Some (get_or nexts point [])
-listed [] point to (k, less, is) = absurd (omega (arith, less))
-listed (list ∷ nexts) zero to c = refl
-listed (list ∷ nexts) (suc point) to c = listed nexts point to c
 
 pub every_tick : IsClock no_clock
 every_tick = record { first = omega arith; period = omega arith }
@@ -67,7 +62,7 @@ module _ (unit : Whole) (number : ℕ) (agent : AgentDecl) (nexts : List (List �
   module _ (are : AreNexts unit.functions agent nexts) where
     -- what follows a point is what its code may reach
     pub follows : (point to : ℕ) → Contains (following times point) to → IsNext unit.functions agent point to
-    follows point to c = (are.each point (get_or nexts point []) (listed nexts point to c) to).0 c
+    follows point to c = (are.each point (get_or nexts point []) (listed_at nexts point to c) to).0 c
 
     pub followed : (point to : ℕ) → point < length agent.points → IsNext unit.functions agent point to → Contains (following times point) to
     followed point to less next = (are.each point (get_or nexts point []) (slice_get-get_or nexts point [] (omega (arith, less, are.length))) to).1 next

@@ -3,13 +3,14 @@ use Rattle.std.proofs.Common.{◌≡◌, ℕ, ◌+◌, ◌/◌, ◌<◌, ◌≤�
 use Rattle.std.specs.Prelude.{true, ◌==◌, Option, Some, None}
 use Rattle.std.specs.List.{Contains}
 use Rattle.std.proofs.lemmas.Bool.{and_parts, eqb-true}
+use Rattle.psy_history.proofs.lemmas.MoreUnits.{units_more}
 use Rattle.psy_history.specs.Actions.{Action, System}
 use Rattle.psy_history.specs.History.{history}
 use Rattle.psy_history.specs.Processors.{served}
 use Rattle.psy_history.specs.Schedule.{Turn, is_of, pending, soonest, turn_of, turns, units, work}
 use Rattle.psy_history.proofs.Growth.{kept_on}
 use Rattle.psy_history.proofs.Numbers.{agent_of, one_of_number}
-use Rattle.psy_history.proofs.Soonest.{IsSoonest, pending_from, soonest_is, units_more}
+use Rattle.psy_history.proofs.Soonest.{IsSoonest, pending_from, soonest_is}
 
 -- What the first so many cycles of a processor go to, which serves agents in these orders
 abbrev pub turns_in : System → (ℕ → List ℕ) → ℕ → List (Option Turn)

@@ -1,11 +1,11 @@
 -- Which unit of an action a cycle is, and the unit that pays an instruction.
-use Rattle.std.proofs.Common.{◌≡◌, ℕ, suc, ◌+◌, ◌<◌, ◌≤◌, cond, ◌==◌, ◌&&◌, nat_lt, List, [], ◌∷◌, length, Option, Some, None, refl, sym, ◌∙◌, inl, inr, arith}
+use Rattle.std.proofs.Common.{◌≡◌, ℕ, suc, ◌+◌, ◌<◌, ◌≤◌, ◌==◌, ◌&&◌, List, [], ◌∷◌, length, Option, Some, None, refl, sym, ◌∙◌, inl, inr, arith}
 use Rattle.std.proofs.lemmas.Bool.{and_parts, cases_Bool, cases_order, eq-eqb, eqb-true, ne_eqb}
 use Rattle.std.proofs.lemmas.Bool.Decides.{nat_tests}
-use Rattle.std.proofs.lemmas.List.Sums.{sum_by-cons}
 use Rattle.std.proofs.lemmas.Option.{none-some}
+use Rattle.psy_budget.proofs.lemmas.Stalls.{more_stalled}
 use Rattle.psy_budget.specs.declared.charge.Stall.{Stall}
-use Rattle.psy_budget.specs.Charges.{cycle_of, stalled}
+use Rattle.psy_budget.specs.Charges.{cycle_of}
 use Rattle.psy_history.specs.Actions.{Action}
 use Rattle.psy_history.specs.Schedule.{Turn, cycle_of_unit, is_of, turn_of, units}
 
@@ -36,18 +36,6 @@ unit_stays turn turns agent number unit cycle had = elim (cases_Bool (is_of agen
 ]
 
 -- ---- the units that pay instructions
-
--- What a stall costs an action before its first so many instructions
-abbrev cost : ℕ → ℕ → Stall → ℕ
-cost action n s = cond (s.action == action && nat_lt s.instr n) s.cycles 0
-
-more_cost : (action n m : ℕ) (s : Stall) → n ≤ m → cost action n s ≤ cost action m s
-more_cost action n m s more = grind (arith, nat_tests)
-
-more_stalled : (action n m : ℕ) (stalls : List Stall) → n ≤ m → stalled stalls action n ≤ stalled stalls action m
-more_stalled action n m [] more = omega arith
-more_stalled action n m (s ∷ stalls) more =
-    omega (arith, sum_by-cons (cost action n) s stalls, sum_by-cons (cost action m) s stalls, more_cost action n m s more, more_stalled action n m stalls more)
 
 -- They rise with the instructions.
 cycles_rise : (stalls : List Stall) (action n m : ℕ) → n < m → cycle_of stalls action n < cycle_of stalls action m

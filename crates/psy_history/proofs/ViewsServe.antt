@@ -1,7 +1,8 @@
 -- What an instruction asks that asks what it may, its view serves.
-use Rattle.std.proofs.Common.{◌≡◌, ℕ, zero, suc, ◌<◌, List, [], ◌∷◌, length, get_or, Option, Some, None, map, refl, sym, ap, subst, ◌∙◌, arith}
+use Rattle.std.proofs.Common.{◌≡◌, ℕ, ◌<◌, List, length, get_or, Option, Some, None, map, refl, sym, ap, subst, ◌∙◌, arith}
 use Rattle.std.specs.Prelude.{ℤ, IsSome, pos, slice_get, true}
-use Rattle.std.proofs.lemmas.Option.{none-some, same_Some, slice_get-get_or}
+use Rattle.std.proofs.lemmas.Option.{slice_get-get_or}
+use Rattle.psy_lists.proofs.lemmas.Places.{mapped, mapped_from}
 use Rattle.psy_code.specs.Views.{Call, Past, Ready, Send, ServesAll, Take, View, found_in, messages_of, past_of}
 use Rattle.psy_tree.specs.declared.unit.Unit.{Unit as Whole}
 use Rattle.psy_tree.specs.declared.unit.VarDecl.{VarDecl}
@@ -11,18 +12,6 @@ use Rattle.psy_history.specs.Regular.{MayAsk}
 use Rattle.psy_meaning.specs.KnownWays.{Ways}
 use Rattle.psy_history.proofs.Sights.{SeesAs}
 
--- What stands in a list for what was made of it
-pub made_of : {X Y : Type 0} (f : X → Y) (xs : List X) (i : ℕ) (y : Y) → slice_get (map f xs) i ≡ Some y → (x : X) × (slice_get xs i ≡ Some x) × (f x ≡ y)
-made_of f [] i y at = absurd (none-some y at)
-made_of f (x ∷ xs) zero y at = (x, refl, same_Some (f x) y at)
-made_of f (x ∷ xs) (suc i) y at = made_of f xs i y at
-
--- What was made of an element
-made_at : {X Y : Type 0} (f : X → Y) (xs : List X) (i : ℕ) (x : X) → slice_get xs i ≡ Some x → slice_get (map f xs) i ≡ Some (f x)
-made_at f [] i x at = absurd (none-some x at)
-made_at f (y ∷ xs) zero x at = ap (λ z. Some (f z)) (same_Some y x at)
-made_at f (y ∷ xs) (suc i) x at = made_at f xs i x at
-
 there_some : (messages : Option (List ℤ)) → is_there messages ≡ true → IsSome messages
 there_some None e = cc
 there_some (Some values) e = refl
@@ -31,7 +20,7 @@ module _ (unit : Whole) (agent : ℕ) (begun view : View) (sees : IsViewOf unit 
   serves_past : (variable back : ℕ) (decl : VarDecl) → slice_get unit.variables variable ≡ Some decl → back < decl.depth → IsSome (past_of view variable back)
   serves_past variable back decl at low =
       let depths : map length view.pasts ≡ map (λ (v : VarDecl). v.depth) unit.variables = ap (map length) still.0 ∙ sees.depths in
-      let (values, is, long) = made_of length view.pasts variable decl.depth (ap (λ ns. slice_get ns variable) depths ∙ made_at (λ (v : VarDecl). v.depth) unit.variables variable decl at) in
+      let (values, is, long) = mapped_from length view.pasts variable decl.depth (ap (λ ns. slice_get ns variable) depths ∙ mapped (λ (v : VarDecl). v.depth) unit.variables variable decl at) in
       let found = ap (λ found. found_in found (λ vs. slice_get vs back)) is in
       let value : slice_get values back ≡ Some (get_or values back (pos 0)) = slice_get-get_or values back (pos 0) (omega (arith, low, long)) in
       subst IsSome (sym (found ∙ value)) refl
@@ -39,7 +28,7 @@ module _ (unit : Whole) (agent : ℕ) (begun view : View) (sees : IsViewOf unit 
   serves_messages : (stream : ℕ) → Receives unit agent stream → IsSome (messages_of view stream)
   serves_messages stream receives =
       let same = still.1 ∙ sees.streams in
-      let (messages, is, there) = made_of is_there view.messages stream true (ap (λ bs. slice_get bs stream) same ∙ receives) in
+      let (messages, is, there) = mapped_from is_there view.messages stream true (ap (λ bs. slice_get bs stream) same ∙ receives) in
       subst IsSome (sym (ap (λ found. found_in found (λ m. m)) is)) (there_some messages there)
 
   pub serves : (ways : Ways) (point : ℕ) (call : Option Call) → MayAsk ways unit agent point call → ServesAll view call

@@ -1,5 +1,5 @@
 -- What executes the actions of a program's agents: its statements, or its code.
-use Rattle.std.specs.Prelude.{ℕ, ◌+◌, List, [], ◌∷◌, map, take, drop, replicate, get_or, ℤ}
+use Rattle.std.specs.Prelude.{ℕ, ◌+◌, List, [], ◌∷◌, map, take, drop, replicate, ℤ}
 use Rattle.std.specs.List.{flat_map}
 use Rattle.psy_arith.specs.declared.operators.Trap.{Trap}
 use Rattle.psy_tree.specs.declared.unit.AgentDecl.{AgentDecl}
@@ -10,6 +10,7 @@ use Rattle.psy_code.specs.declared.code.Code.{Code}
 use Rattle.psy_code.specs.Execution.{Copy, Frame, Machine, Run, Running, RanTo, TrappedBy, NoRun, copy_from, copy_of, run_code, standing}
 use Rattle.psy_code.specs.Views.{Deeds, View, nothing_done}
 use Rattle.psy_meaning.specs.Alike.{begun, first_store, started}
+use Rattle.psy_meaning.specs.CodeWays.{agent_code_at}
 use Rattle.psy_meaning.specs.Rest.{rest}
 use Rattle.psy_meaning.specs.Statements.{act}
 use Rattle.psy_meaning.specs.States.{Store, Outcome, Halts, value_or_zero}
@@ -74,10 +75,6 @@ by_statements unit = record {
 }
 
 -- ---- code
-
--- The code of an agent: one without points where there is none
-abbrev pub agent_code_at : Code → ℕ → AgentCode
-agent_code_at code agent = get_or code.agents agent (record { points = []; cells = []; counters = 0; copies = []; stack = 0; frames = 0 })
 
 -- The agent's own frame with these cells, its counters 0
 abbrev pub home_with : AgentCode → List ℤ → Frame

@@ -10,7 +10,8 @@ use Rattle.psy_tree.specs.declared.unit.Unit.{Unit as Whole}
 use Rattle.psy_tree.specs.Parts.{agent_at}
 use Rattle.psy_history.specs.Actions.{System, timing}
 use Rattle.psy_history.specs.Compiled.{coded}
-use Rattle.psy_history.specs.Executors.{Carried, agent_code_at}
+use Rattle.psy_meaning.specs.CodeWays.{agent_code_at}
+use Rattle.psy_history.specs.Executors.{Carried}
 use Rattle.psy_history.specs.Openings.{FitCells, MayCarry}
 use Rattle.psy_history.specs.Runs.{GoesWell}
 use Rattle.psy_meaning.specs.Alike.{IsViewOf, first_copies}

@@ -11,7 +11,8 @@ use Rattle.psy_tree.specs.declared.unit.AgentDecl.{AgentDecl}
 use Rattle.psy_tree.specs.declared.unit.Unit.{Unit as Whole}
 use Rattle.psy_tree.specs.Parts.{agent_at}
 use Rattle.psy_history.specs.Actions.{Next, System, first_action, publishing, stream_of, timing, variable_of}
-use Rattle.psy_history.specs.Executors.{Carried, agent_code_at, copy_in, cut}
+use Rattle.psy_meaning.specs.CodeWays.{agent_code_at}
+use Rattle.psy_history.specs.Executors.{Carried, copy_in, cut}
 use Rattle.psy_meaning.specs.Alike.{AllFit, FitSlots, first_copies}
 use Rattle.psy_meaning.specs.Timing.{first_date}
 use Rattle.psy_history.specs.Regular.{MayStartAlike}

@@ -7,7 +7,8 @@ use Rattle.psy_code.specs.Execution.{Run, RunState, Running, RanTo, TrappedBy, N
 use Rattle.psy_code.specs.Views.{View}
 use Rattle.psy_history.specs.Actions.{System, timing}
 use Rattle.psy_meaning.specs.Alike.{IsViewOf, started}
-use Rattle.psy_history.specs.Executors.{Carried, agent_code_at, by_code, carried_by, machine_at}
+use Rattle.psy_meaning.specs.CodeWays.{agent_code_at}
+use Rattle.psy_history.specs.Executors.{Carried, by_code, carried_by, machine_at}
 use Rattle.psy_tree.specs.Parts.{agent_at}
 use Rattle.psy_meaning.specs.Timing.{MayStart, budget_at, following}
 use Rattle.psy_meaning.specs.Units.{IsBare}

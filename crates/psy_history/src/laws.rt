@@ -20,7 +20,7 @@ ghost use Rattle.psy_tree.specs.declared.unit.Unit.{Unit as Whole};
 ghost use Rattle.psy_tree.specs.Parts.{homes};
 ghost use Rattle.psy_tree.specs.declared.unit.VarDecl.{VarDecl};
 ghost use Rattle.psy_history.specs.Actions.{Action, Done, History, Opening, System, first_action, publishing};
-ghost use Rattle.psy_history.specs.Executors.{agent_code_at};
+ghost use Rattle.psy_meaning.specs.CodeWays.{agent_code_at};
 ghost use Rattle.psy_base.specs.Extremes.{IsGreatest};
 ghost use Rattle.psy_history.specs.History.{history};
 ghost use Rattle.psy_history.specs.Lines.{events, is_date, publications, stops_of};

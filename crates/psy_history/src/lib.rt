@@ -5,10 +5,12 @@
 //! It may know the definitions of psy_meaning; nothing runs.
 #![tactic(auto)]
 
+mod inputs;
 pub mod laws;
 mod processors;
 mod told;
 
+pub use inputs::no_lists;
 pub use processors::{homes_of, processor_of, processors_of};
 pub use psy_budget::Stall;
 pub use told::{Inputs, Order, Round, Script};

@@ -4,6 +4,7 @@ use Rattle.std.specs.List.{Contains, slice_get}
 use Rattle.std.proofs.lemmas.Bool.{cases_lt, true≢false}
 use Rattle.std.proofs.lemmas.Option.{slice_get-get_or, slice_get_within}
 use Rattle.std.proofs.lemmas.List.{get_or_past}
+use Rattle.psy_lists.proofs.lemmas.Places.{there as some_at}
 use Rattle.psy_budget.specs.declared.charge.Stall.{Stall}
 use Rattle.psy_code.specs.declared.code.Code.{Code}
 use Rattle.psy_tree.specs.declared.unit.Unit.{Unit as Whole}
@@ -18,7 +19,6 @@ use Rattle.psy_kernel.specs.declared.engine.Runner.{Runner}
 use Rattle.psy_kernel.specs.Standing.{AgentStands, InTick}
 use Rattle.psy_dates.specs.Movers.{IsDoneBelow}
 use Rattle.psy_kernel.specs.Starting.{deadline_at, runner_at, seat_at, starts_at}
-use Rattle.psy_kernel.proofs.ShownMessages.{some_at}
 use Rattle.psy_kernel.proofs.Started.{Sits, agent_after, free_where}
 
 pub tick_after : (quantum until date cycles : ℕ) → date ≤ until → cycles ≡ date * quantum → InTick quantum until (suc date) cycles

@@ -41,16 +41,6 @@ use Rattle.psy_kernel.proofs.Ticks.{IsInside, inside_tick, tick_kept}
 
 -- ---- a list of what is made of others
 
-pub mapped : {X Y : Type 0} (made : X → Y) (xs : List X) (place : ℕ) (x : X) → slice_get xs place ≡ Some x → slice_get (map made xs) place ≡ Some (made x)
-mapped made [] place x at = absurd (cc)
-mapped made (y ∷ xs) zero x at = (let same : y ≡ x = cc in ap (λ z. Some (made z)) same)
-mapped made (y ∷ xs) (suc place) x at = mapped made xs place x at
-
-pub mapped_from : {X Y : Type 0} (made : X → Y) (xs : List X) (place : ℕ) (y : Y) → slice_get (map made xs) place ≡ Some y → (x : X) × (slice_get xs place ≡ Some x) × (made x ≡ y)
-mapped_from made [] place y at = absurd (cc)
-mapped_from made (x ∷ xs) zero y at = (x, refl, let same : made x ≡ y = cc in same)
-mapped_from made (x ∷ xs) (suc place) y at = mapped_from made xs place y at
-
 -- ---- a run
 
 -- Where the run of an engine begins

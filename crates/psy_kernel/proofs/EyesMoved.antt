@@ -1,5 +1,6 @@
 -- What the eyes of an action hold behind an instruction.
 use Rattle.std.proofs.Common.{◌≡◌, ℕ, ap, sym, ◌∙◌, subst}
+use Rattle.psy_meaning.proofs.lemmas.Running.{same_running}
 use Rattle.psy_budget.specs.Charges.{Charged}
 use Rattle.psy_code.specs.declared.code.Code.{Code}
 use Rattle.psy_code.specs.Execution.{RunState, call_of, deeds_then}
@@ -11,7 +12,6 @@ use Rattle.psy_kernel.specs.Looking.{KeepsRest, window_of}
 use Rattle.psy_kernel.specs.Seeing.{window_in}
 use Rattle.psy_kernel.specs.Standing.{HasDone, charge_after}
 use Rattle.psy_kernel.proofs.DeedsDone.{done_now}
-use Rattle.psy_kernel.proofs.RunsOn.{same_state}
 
 module _ (s : System) (code : Code) (r : Action) (had : ℕ) (charge : Charged) (machine : AgentMachine) (w : InAction s code r had charge machine) where
   abbrev state : RunState
@@ -22,7 +22,7 @@ module _ (s : System) (code : Code) (r : Action) (had : ℕ) (charge : Charged) 
       → HasDone s code r (charge_after s r had).paid before.outbox.now.sends before.taken.now.items
       → AreDone s r (deeds_then state.deeds (call_of code state.machine)) after.outbox.now.sends after.taken.now.items
   moved before after is kept sees did =
-      let same : did.state ≡ state = same_state did.state state (sym did.running ∙ w.running.1) in
+      let same : did.state ≡ state = same_running did.state state (sym did.running ∙ w.running.1) in
       let now : AreDone s r state.deeds before.outbox.now.sends before.taken.now.items = subst (λ (t : RunState). AreDone s r t.deeds before.outbox.now.sends before.taken.now.items) same (record { sent = did.sent; took = did.took }) in
       let served : window_in before.scene.now after.taken.now.items after.outbox.now after.noted ≡ window_after (window_of before) (call_of code state.machine) =
       ap (λ scene. window_in scene after.taken.now.items after.outbox.now after.noted) (sym kept.scene) ∙ is ∙ ap (λ m. window_after (window_of before) (call_of code m)) (sym w.running.2) in

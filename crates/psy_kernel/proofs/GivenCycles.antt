@@ -4,6 +4,7 @@ use Rattle.std.specs.Prelude.{ℕ, zero, suc, ◌+◌, ◌-◌, ◌*◌, ◌<◌
 use Rattle.std.specs.List.{All}
 use Rattle.std.proofs.lemmas.Bool.{cond-true, cond-false, eq-eqb, lt-ltb, ltb-true, ne_eqb}
 use Rattle.std.proofs.lemmas.List.Elements.{All-cons, All-weaker}
+use Rattle.psy_history.proofs.lemmas.MoreUnits.{units_more}
 use Rattle.psy_history.specs.Actions.{Action, History, System}
 use Rattle.psy_history.specs.History.{history}
 use Rattle.psy_history.specs.Processors.{processor_at, served}
@@ -60,19 +61,12 @@ same_stays turns now r same = ap (λ n. nat_lt n (work r)) same.units
 
 -- ---- the action that gets them
 
-more_units : (agent number : ℕ) (turn : Option Turn) (turns : List (Option Turn)) → units agent number turns ≤ units agent number (turn ∷ turns)
-more_units agent number turn turns = by (is_of agent number turn)
-  where
-    by : (test : Bool) → units agent number turns ≤ (if test then suc (units agent number turns) else units agent number turns)
-    by true = omega arith
-    by false = omega arith
-
 units_rise : (agent number : ℕ) (turn : Option Turn) (turns : List (Option Turn)) (k n : ℕ) → units agent number (given_to turn k turns) ≤ units agent number (given_to turn (k + n) turns)
 units_rise agent number turn turns k zero = (let e : k + 0 ≡ k = omega arith in subst (λ m. units agent number (given_to turn k turns) ≤ units agent number (given_to turn m turns)) (sym e) (omega arith))
 units_rise agent number turn turns k (suc n) =
     let e : k + suc n ≡ suc (k + n) = omega arith in
     let rest = units_rise agent number turn turns k n in
-    let last = more_units agent number turn (given_to turn (k + n) turns) in
+    let last = units_more agent number turn (given_to turn (k + n) turns) in
     subst (λ m. units agent number (given_to turn k turns) ≤ units agent number (given_to turn m turns)) (sym e) (omega (arith, rest, last))
 
 -- What is pending behind some of them was so before

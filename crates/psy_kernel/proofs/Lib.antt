@@ -69,3 +69,4 @@ mod Kernels
 mod GoneAhead
 mod Units
 mod WholeCycles
+pub mod lemmas

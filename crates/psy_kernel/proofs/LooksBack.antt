@@ -24,7 +24,7 @@ use Rattle.psy_history.specs.Processors.{processor_at}
 use Rattle.psy_history.specs.Scheduled.{IsSupplied, gone_to, turns_by}
 use Rattle.psy_meaning.specs.KnownWays.{Listed, Looks, Ways}
 use Rattle.psy_history.specs.Actions.{Action, Opening, System, publishing, variable_of}
-use Rattle.psy_history.specs.Executors.{agent_code_at}
+use Rattle.psy_meaning.specs.CodeWays.{agent_code_at}
 use Rattle.psy_tree.specs.Parts.{no_clock, no_variable}
 use Rattle.psy_base.specs.Extremes.{IsGreatest}
 use Rattle.psy_history.specs.History.{history}

@@ -10,7 +10,7 @@ use Rattle.psy_code.specs.Views.{Call, Past, Ready, Take, Send}
 use Rattle.psy_history.specs.Regular.{MayAsk, begun_by}
 use Rattle.psy_history.specs.Rings.{reach_with}
 use Rattle.psy_history.specs.Actions.{Action, System}
-use Rattle.psy_history.specs.Executors.{agent_code_at}
+use Rattle.psy_meaning.specs.CodeWays.{agent_code_at}
 use Rattle.psy_history.specs.Schedule.{work}
 use Rattle.psy_kernel.specs.Acting.{IsOfCode, LooksBy, look_of}
 use Rattle.psy_kernel.specs.Cycles.{IsNear, reach_by}

@@ -15,7 +15,7 @@ use Rattle.psy_dates.specs.Outboxes.{Outboxed}
 use Rattle.psy_dates.specs.Plans.{opened_of}
 use Rattle.psy_machine.specs.Stepping.{IsOf}
 use Rattle.psy_history.specs.Actions.{Action, Opening, System, timing}
-use Rattle.psy_history.specs.Executors.{agent_code_at}
+use Rattle.psy_meaning.specs.CodeWays.{agent_code_at}
 use Rattle.psy_history.specs.History.{history}
 use Rattle.psy_history.specs.Regular.{begun_by}
 use Rattle.psy_history.specs.Processors.{processor_at}

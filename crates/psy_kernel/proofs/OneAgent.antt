@@ -6,6 +6,7 @@ use Rattle.std.proofs.lemmas.Bool.{cases_lt, cond-true, cond-false, and_right, l
 use Rattle.std.proofs.lemmas.List.{get_or_past}
 use Rattle.std.proofs.lemmas.List.Elements.{All-weaker}
 use Rattle.std.proofs.lemmas.Option.{slice_get-get_or}
+use Rattle.psy_lists.proofs.lemmas.Searches.{filter_less}
 use Rattle.psy_arith.specs.declared.operators.Trap.{Trap}
 use Rattle.psy_code.specs.declared.code.Code.{Code}
 use Rattle.psy_code.specs.Execution.{Machine, copy_of}
@@ -14,7 +15,8 @@ use Rattle.psy_dates.specs.declared.seat.Phase.TheVariants as phase
 use Rattle.psy_dates.specs.Standing.{KeepsCopy, SeatOf, TellsEnd, phase_by, phase_of, trap_of}
 use Rattle.psy_machine.specs.Stepping.{AgentMachine, IsOf}
 use Rattle.psy_history.specs.Actions.{Action, System, Verdict, Done, Trapped, Overran, is_done, is_silent, timing, variable_of}
-use Rattle.psy_history.specs.Executors.{agent_code_at, copy_in, machine_at}
+use Rattle.psy_meaning.specs.CodeWays.{agent_code_at}
+use Rattle.psy_history.specs.Executors.{copy_in, machine_at}
 use Rattle.psy_history.specs.Schedule.{Turn, finish, is_of, is_pending, units, work}
 use Rattle.psy_meaning.specs.States.{value_or_zero}
 use Rattle.psy_meaning.specs.Timing.{end_date}
@@ -49,14 +51,6 @@ settled_first : (p : Action → Bool) (until : ℕ) (r : Action) (before : List 
 settled_first p until r before due h =
     ap (λ test. filter p (if test then r ∷ due_by until before else due_by until before)) (le-leb r.deadline until due)
     ∙ cond-true (p r) (r ∷ filter p (due_by until before)) (filter p (due_by until before)) h
-
-filter_length : {X : Type 0} (p : X → Bool) (xs : List X) → length (filter p xs) ≤ length xs
-filter_length p [] = omega arith
-filter_length p (x ∷ xs) = by (p x) (filter_length p xs)
-  where
-    by : (test : Bool) → length (filter p xs) ≤ length xs → length (if test then x ∷ filter p xs else filter p xs) ≤ suc (length xs)
-    by true h = omega (arith, h)
-    by false h = omega (arith, h)
 
 -- A variable that has an owner is one of the program's
 pub variable_known : (s : System) (variable owner : ℕ) → (variable_of s variable).owner ≡ Some owner → slice_get s.unit.variables variable ≡ Some (variable_of s variable)
@@ -106,8 +100,8 @@ module _ (s : System) (code : Code) (turns : List (Option Turn)) (until date cyc
     pub count_few : figure.count ≤ 2 ^ 50 + until
     count_few =
         let e = counted ∙ ap (due_count s agent) settled_then ∙ added_is (s.opening.count agent) (length (settled turns until before)) in
-        let a = filter_length (λ q. not (is_pending turns q)) (due_by until before) in
-        let b = filter_length (λ (q : Action). nat_le q.deadline until) before in
+        let a = filter_less (λ q. not (is_pending turns q)) (due_by until before) in
+        let b = filter_less (λ (q : Action). nat_le q.deadline until) before in
         omega (arith, e, a, b, g.few, g.counted)
 
     count_before : figure.count ≡ due_count s agent (settled now until before)

@@ -13,7 +13,7 @@ use Rattle.psy_dates.specs.declared.seat.Seat.{Seat}
 use Rattle.psy_dates.specs.Standing.{KeepsCopy, KeepsSends, KeepsTakes, SeatStands, phase_by, phase_of}
 use Rattle.psy_machine.specs.Stepping.{AgentMachine}
 use Rattle.psy_history.specs.Actions.{Action, System, is_done, is_silent, stream_of}
-use Rattle.psy_history.specs.Executors.{agent_code_at}
+use Rattle.psy_meaning.specs.CodeWays.{agent_code_at}
 use Rattle.psy_history.specs.Schedule.{Turn, finish, is_of, is_pending, units, work}
 use Rattle.psy_history.specs.Summary.{due_by, due_count, least_slack, numbers_in, slack_of}
 use Rattle.psy_base.specs.Extremes.{least_of}

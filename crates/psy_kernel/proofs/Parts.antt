@@ -1,11 +1,12 @@
 -- What all agents have and share, before some cycles and behind them.
 use Rattle.std.proofs.Common.{◌≡◌, ◌≢◌, refl, sym, ap, ◌∙◌, subst, inl, inr, arith}
-use Rattle.std.specs.Prelude.{ℕ, zero, suc, ◌-◌, ◌<◌, ◌≤◌, Bool, true, false, List, [], ◌∷◌, get_or, length, Option, Some, None, slice_get, slice_set, ℤ}
+use Rattle.std.specs.Prelude.{ℕ, ◌-◌, ◌<◌, ◌≤◌, Bool, true, false, List, [], ◌∷◌, get_or, length, Option, Some, None, slice_get, slice_set, ℤ}
 use Rattle.std.specs.List.{All}
 use Rattle.std.proofs.lemmas.Bool.{cases_eq, cases_lt}
 use Rattle.std.proofs.lemmas.List.{get_or_past, length-set}
 use Rattle.std.proofs.lemmas.List.Elements.{All-head, All-weaker}
 use Rattle.std.proofs.lemmas.Option.{slice_get-get_or, slice_get_within}
+use Rattle.psy_lists.proofs.lemmas.Places.{there}
 use Rattle.psy_code.specs.declared.code.Code.{Code}
 use Rattle.psy_dates.specs.declared.seat.Seat.{Seat}
 use Rattle.psy_dates.specs.declared.movers.Movers.{Movers}
@@ -43,11 +44,6 @@ pub record PartsStand (s : System) (sizes : Sizes) (code : Code) (until : ℕ) (
   pub agents : (agent : ℕ) (runner : Runner) → slice_get runners agent ≡ Some runner
       → AgentStands s code (turns agent) until agent (history s dates agent) runner (waiting agent)
   pub doing : (agent : ℕ) (outbox : Outboxed) → slice_get shared.outboxes.items agent ≡ Some outbox → DeedsStand s code (turns agent) (history s dates agent) outbox.sends shared.taken.items
-
-found : {X : Type 0} (xs : List X) (place : ℕ) → place < length xs → (x : X) × (slice_get xs place ≡ Some x)
-found [] place less = absurd (omega (arith, less))
-found (x ∷ xs) zero less = (x, refl)
-found (x ∷ xs) (suc place) less = found xs place (omega (arith, less))
 
 -- The seat of an agent as its history has it, whether the agent was silent from before or not
 seated_kept : (quiet : Bool) (before : ℕ) (turns now : List (Option Turn)) (date : ℕ) (actions : List Action) (seat : Seat) → All (AreSameFor turns now) actions → IsSeated quiet before date turns actions seat → IsSeated quiet before date now actions seat
@@ -134,7 +130,7 @@ module _ (s : System) (sizes : Sizes) (code : Code) (until : ℕ) (turns : ℕ �
       waits_is : (agent : ℕ) → processor_at s.unit agent ≡ processor → pending_deadline ready agent ≡ deadline_of (turns agent) (history s dates agent)
       waits_is agent of = elim (cases_lt agent (length s.unit.agents)) [
         | inl less ↦
-            (let runner = found runners agent (omega (arith, less, p.run)) in
+            (let runner = there runners agent (omega (arith, less, p.run)) in
             sym (own agent of) ∙ AgentStands.ready (p.agents agent runner.0 runner.1))
         | inr more ↦ get_or_past ready agent None (omega (arith, more, as_many)) ∙ sym (ap (deadline_of (turns agent)) (past agent more))
       ]
@@ -241,7 +237,7 @@ module _ (s : System) (sizes : Sizes) (code : Code) (until : ℕ) (turns : ℕ �
         | inl same ↦
             (let here : slice_get (slice_set shared.outboxes.items agent outbox) agent ≡ Some x = sym (ap (slice_get (slice_set shared.outboxes.items agent outbox)) same) ∙ at in
             let x_is : x ≡ outbox = get_set_same shared.outboxes.items agent outbox x here in
-            let old = found shared.outboxes.items agent (omega (arith, slice_get_within (slice_set shared.outboxes.items agent outbox) agent x here, length-set shared.outboxes.items agent outbox)) in
+            let old = there shared.outboxes.items agent (omega (arith, slice_get_within (slice_set shared.outboxes.items agent outbox) agent x here, length-set shared.outboxes.items agent outbox)) in
             subst (λ a. OutboxStands sizes (dates - 1) (now a) a (history s dates a) x) (sym same) (subst (OutboxStands sizes (dates - 1) (now agent) agent (history s dates agent)) (sym x_is) (record {
               size = size old.0 old.1 ∙ (p.shares.outboxes agent old.0 old.1).size;
               sends = subst (λ actions. KeepsSends (dates - 1) (now agent) actions outbox.sends) (sym is) (subst (λ d. KeepsSends d (now agent) (r ∷ before) outbox.sends) (sym last) box.sent);
@@ -277,7 +273,7 @@ module _ (s : System) (sizes : Sizes) (code : Code) (until : ℕ) (turns : ℕ �
       movers_told : (after : Movers) → IsTold seat shared.movers after → MoversStand s dates (slice_set shared.seats.items agent seat) after
       movers_told after told =
           let known : agent < length s.unit.agents = IsRegular.known (All-head (IsRegular s agent) r before (subst (All (IsRegular s agent)) is (AreRegular.each (lawful.actions dates agent)))) in
-          let old = found shared.seats.items agent (omega (arith, known, p.shares.seated)) in
+          let old = there shared.seats.items agent (omega (arith, known, p.shares.seated)) in
           let was : SeatStands date (turns agent) (r ∷ before) old.0 = seated_last (s.opening.silent agent) s.opening.dates date (turns agent) r before old.0
           (subst (λ actions. IsSeated (s.opening.silent agent) s.opening.dates date (turns agent) actions old.0) is (subst (λ d. IsSeated (s.opening.silent agent) s.opening.dates d (turns agent) (history s dates agent) old.0) last (p.shares.seats agent old.0 old.1))) in
           movers_given s dates shared.seats.items agent old.0 seat shared.movers after old.1 (λ waits. never_waits (is_silent date (r ∷ [])) (is_pending (now agent) r) (is_done r.verdict) (sym one.seated.phase ∙ waits))

@@ -7,6 +7,7 @@ use Rattle.std.proofs.lemmas.List.{drop_all, drop-map, length-take, take-map}
 use Rattle.std.proofs.lemmas.Option.{get_or_from_slice_get, slice_get-get_or, slice_get-map, slice_get_within}
 use Rattle.psy_base.specs.declared.message.Message.{Message}
 use Rattle.psy_base.specs.declared.sizes.Sizes.{Sizes}
+use Rattle.psy_meaning.proofs.lemmas.Running.{same_running}
 use Rattle.psy_code.specs.declared.code.Code.{Code}
 use Rattle.psy_code.specs.declared.look.Sent.{Sent}
 use Rattle.psy_code.specs.Execution.{RunState, Running, call_of, run_code}
@@ -15,14 +16,13 @@ use Rattle.psy_dates.specs.Outboxes.{Outboxed}
 use Rattle.psy_history.specs.Queues.{queue_of}
 use Rattle.psy_history.specs.Regular.{begun_by}
 use Rattle.psy_history.specs.Actions.{Action, System, stream_of}
-use Rattle.psy_history.specs.Executors.{agent_code_at}
+use Rattle.psy_meaning.specs.CodeWays.{agent_code_at}
 use Rattle.psy_meaning.specs.Kept.{Receives}
 use Rattle.psy_queue.specs.Order.{Queued}
 use Rattle.psy_tree.specs.declared.unit.StreamDecl.{StreamDecl}
 use Rattle.psy_kernel.specs.Cycles.{ActsIn, AreQueuesOf}
 use Rattle.psy_kernel.specs.Seeing.{Sight, left_in, seen_by, sight_in, view_in, window_in}
 use Rattle.psy_kernel.specs.Standing.{HasDone, charge_after}
-use Rattle.psy_kernel.proofs.RunsOn.{same_state}
 use Rattle.psy_kernel.proofs.StreamsLeft.{left_is, messages_are}
 use Rattle.psy_tree.specs.Parts.{no_stream}
 
@@ -83,7 +83,7 @@ module _ (s : System) (sizes : Sizes) (code : Code) (r : Action) (had date : ℕ
       let queue : Queued = get_or queues stream (record { size = 0; messages = [] }) in
       let queued : slice_get queues stream ≡ Some queue = slice_get-get_or queues stream (record { size = 0; messages = [] }) (omega (arith, known, stand.0)) in
       let seen : List Message = r.seen stream in
-      let same : did.state ≡ state = same_state did.state state (sym did.running ∙ running) in
+      let same : did.state ≡ state = same_running did.state state (sym did.running ∙ running) in
       let own : (stream_of s stream).receiver ≡ r.agent = ap (λ (decl : StreamDecl). decl.receiver) (get_or_from_slice_get s.unit.streams stream d.decl no_stream d.at) ∙ d.own in
       let n_is : n ≡ length (take (count_by (λ t. t == stream) state.deeds.takes) seen) = did.took stream n at own ∙ ap (λ (t : RunState). length (take (count_by (λ t. t == stream) t.deeds.takes) seen)) same in
       let front : take (seen_by queue.messages r.start) queue.messages ≡ seen = ap (λ k. take k queue.messages) (seen_is stream queue its queued) ∙ ap (take (length seen)) (stand.1 stream queue queued).messages ∙ (look stream d.decl d.at d.own).1 in
@@ -102,7 +102,7 @@ module _ (s : System) (sizes : Sizes) (code : Code) (r : Action) (had date : ℕ
       streams = refl;
       clocks = refl;
       room = λ state running sent call. (
-          let same : did.state ≡ state = same_state did.state state (sym did.running ∙ running) in
+          let same : did.state ≡ state = same_running did.state state (sym did.running ∙ running) in
           let sent_is : outbox.sends ≡ state.deeds.sends = did.sent ∙ ap (λ (t : RunState). t.deeds.sends) same in
           let less = sends state sent running call in
           omega (arith, less, ap length sent_is)

@@ -2,6 +2,7 @@
 use Rattle.std.proofs.Common.{◌≡◌, ◌≢◌, ◌⊎◌, ℕ, zero, suc, ◌+◌, ◌-◌, ◌<◌, ◌≤◌, Option, Some, None, slice_get, refl, sym, ap, ◌∙◌, subst, inl, inr, arith}
 use Rattle.std.specs.Prelude.{IsSome, length}
 use Rattle.std.proofs.lemmas.Bool.{cases_lt}
+use Rattle.psy_meaning.proofs.lemmas.Running.{same_running, not_over}
 use Rattle.psy_code.specs.declared.code.AgentCode.{AgentCode}
 use Rattle.psy_code.specs.declared.code.Code.{Code}
 use Rattle.psy_code.specs.Execution.{RunState, Run, Running, RanTo, TrappedBy, NoRun, Stuck, call_of, next_of, go_on, run_by, run_one, run_code}
@@ -9,16 +10,10 @@ use Rattle.psy_code.specs.Lasting.{IsOver}
 use Rattle.psy_code.specs.Views.{Call, Past, Ready, Take, Send, View, Window, PermitsAll, ServesAll, first_of, found_in}
 use Rattle.psy_machine.specs.Stepping.{window_after}
 use Rattle.psy_history.specs.Actions.{Action, System}
-use Rattle.psy_history.specs.Executors.{agent_code_at}
+use Rattle.psy_meaning.specs.CodeWays.{agent_code_at}
 use Rattle.psy_history.specs.Regular.{AnswerAlike, Goes, MayAsk, begun_by}
 use Rattle.psy_meaning.specs.KnownWays.{Ways}
 use Rattle.psy_kernel.specs.Acting.{ShowsAs, look_of}
-
-pub same_state : (s t : RunState) → Running s ≡ Running t → s ≡ t
-same_state s t e = cc
-
-not_over : (s t : RunState) (run : Run) → run ≡ Running s → IsOver run t → ⊥
-not_over s t run e h = subst (λ r. IsOver r t) e h
 
 module _ (code : Code) (its : AgentCode) where
   -- a run that is over stays so
@@ -108,7 +103,7 @@ module _ (s : System) (ways : Ways) (code : Code) (its : AgentCode) (r : Action)
     goes = whole.on_the_way n (early n left t running)
 
     same : goes.state ≡ t
-    same = same_state goes.state t (sym goes.running ∙ running)
+    same = same_running goes.state t (sym goes.running ∙ running)
 
     pub asks : MayAsk ways s.unit r.agent r.point (call_of code t.machine)
     asks = subst (λ (t : RunState). MayAsk ways s.unit r.agent r.point (call_of code t.machine)) same goes.asks

@@ -4,6 +4,7 @@ use Rattle.std.specs.List.{slice_get}
 use Rattle.std.proofs.lemmas.Bool.{cases_lt, cond-false, cond-true, eq-eqb, ne_eqb, true≢false}
 use Rattle.std.proofs.lemmas.List.{get_or_past}
 use Rattle.std.proofs.lemmas.Option.{get_or_from_slice_get, slice_get-get_or, slice_get_within}
+use Rattle.psy_lists.proofs.lemmas.Places.{mapped, mapped_from}
 use Rattle.psy_dates.specs.declared.seat.Seat.{Seat}
 use Rattle.psy_dates.specs.Movers.{IsDoneBelow}
 use Rattle.psy_history.specs.Processors.{processor_at}
@@ -15,7 +16,7 @@ use Rattle.psy_kernel.specs.Starting.{deadline_at, deadline_on, home_at}
 use Rattle.psy_kernel.proofs.Asked.{asked}
 use Rattle.psy_kernel.proofs.Dated.{tick_after}
 use Rattle.psy_kernel.proofs.DatesDue.{IsDue}
-use Rattle.psy_kernel.proofs.Engines.{cycles_is, mapped, mapped_from, server_there}
+use Rattle.psy_kernel.proofs.Engines.{cycles_is, server_there}
 use Rattle.psy_kernel.proofs.Homes.{home_is}
 
 -- ---- who is asked anew

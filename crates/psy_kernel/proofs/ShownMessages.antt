@@ -1,34 +1,21 @@
 -- The messages of a queue that become visible at a date: they stand one behind the other, behind those that were visible before.
-use Rattle.std.proofs.Common.{◌≡◌, ℕ, zero, suc, ◌+◌, ◌<◌, ◌≤◌, ◌==◌, Bool, true, false, not, nat_le, nat_lt, List, [], ◌∷◌, ◌++◌, filter, map, length, get_or, slice_get, Some, refl, sym, ap, subst, ◌∙◌, inl, inr, arith}
+use Rattle.std.proofs.Common.{◌≡◌, ℕ, zero, suc, ◌+◌, ◌<◌, ◌≤◌, ◌==◌, Bool, true, false, not, nat_le, nat_lt, List, [], ◌∷◌, ◌++◌, filter, length, get_or, slice_get, Some, refl, sym, ap, subst, ◌∙◌, inl, inr, arith}
 use Rattle.std.specs.List.{All}
 use Rattle.std.proofs.lemmas.Bool.{cases_order}
 use Rattle.std.proofs.lemmas.Bool.Decides.{nat_tests}
 use Rattle.std.proofs.lemmas.List.Elements.{All-head, All-tail}
 use Rattle.std.proofs.lemmas.List.Filters.{length-filter_both}
 use Rattle.psy_base.specs.declared.message.Message.{Message}
-use Rattle.psy_queue.specs.Order.{AreInOrder, comes_before, message_values}
+use Rattle.psy_queue.proofs.lemmas.Orders.{visible_no_earlier, in_order_tail}
+use Rattle.psy_lists.proofs.lemmas.Places.{there as some_at, in_front, mapped}
+use Rattle.psy_queue.specs.Order.{AreInOrder, message_values}
 
 -- ---- lists
-
-pub some_at : {X : Type 0} (xs : List X) (i : ℕ) → i < length xs → (x : X) × (slice_get xs i ≡ Some x)
-some_at [] i l = absurd (omega (arith, l))
-some_at (x ∷ xs) zero l = (x, refl)
-some_at (x ∷ xs) (suc i) l = some_at xs i (omega (arith, l))
-
-in_front : {X : Type 0} (xs ys : List X) (i : ℕ) (x : X) → slice_get xs i ≡ Some x → slice_get (xs ++ ys) i ≡ Some x
-in_front [] ys i x e = absurd (cc)
-in_front (y ∷ xs) ys zero x e = e
-in_front (y ∷ xs) ys (suc i) x e = in_front xs ys i x e
 
 behind_front : {X : Type 0} (xs ys : List X) (i k : ℕ) (y : X) → i ≡ length xs + k → slice_get ys k ≡ Some y → slice_get (xs ++ ys) i ≡ Some y
 behind_front [] ys i k y e at = subst (λ n. slice_get ys n ≡ Some y) (omega (arith, e)) at
 behind_front (x ∷ xs) ys zero k y e at = absurd (omega (arith, e))
 behind_front (x ∷ xs) ys (suc i) k y e at = behind_front xs ys i k y (omega (arith, e)) at
-
-pub mapped_at : {X Y : Type 0} (f : X → Y) (xs : List X) (i : ℕ) (x : X) → slice_get xs i ≡ Some x → slice_get (map f xs) i ≡ Some (f x)
-mapped_at f [] i x e = absurd (cc)
-mapped_at f (y ∷ xs) zero x e = (let same : y ≡ x = cc in ap (λ z. Some (f z)) same)
-mapped_at f (y ∷ xs) (suc i) x e = mapped_at f xs i x e
 
 none_pass : {X : Type 0} (p : X → Bool) (xs : List X) → All (λ x. p x ≡ false) xs → filter p xs ≡ []
 none_pass p [] none = refl
@@ -40,18 +27,8 @@ same_tests p q (x ∷ xs) same = rw (same x, same_tests p q xs same) refl
 
 -- ---- messages in order
 
--- One that doesn't come before another is visible no earlier.
-no_earlier : (m n : Message) → comes_before n m ≡ false → m.visible ≤ n.visible
-no_earlier m n h = elim (cases_order m.visible n.visible) [
-  | inl same ↦ omega (arith, same)
-  | inr other ↦ elim other [ inl less ↦ omega (arith, less) | inr more ↦ absurd (grind (arith, nat_tests)) ]
-]
-
-in_order_tail : (n : Message) (ns : List Message) → AreInOrder (n ∷ ns) → AreInOrder ns
-in_order_tail n ns rise i j d less small = rise (suc i) (suc j) d (omega (arith, less)) (omega (arith, small))
-
 later_than : (n : Message) (ns : List Message) → AreInOrder (n ∷ ns) → All (λ m. n.visible ≤ m.visible) ns
-later_than n ns rise k d small = no_earlier n (get_or ns k d) (rise 0 (suc k) d (omega arith) (omega (arith, small)))
+later_than n ns rise k d small = visible_no_earlier n (get_or ns k d) (rise 0 (suc k) d (omega arith) (omega (arith, small)))
 
 module _ (date : ℕ) where
   abbrev earlier : Message → Bool
@@ -141,4 +118,4 @@ module _ (date : ℕ) where
       let among : slice_get (filter here ms ++ filter later ms) shown ≡ Some found.0 = in_front (filter here ms) (filter later ms) shown found.0 found.1 in
       let there : slice_get ms at ≡ Some found.0 =
       subst (λ xs. slice_get xs at ≡ Some found.0) (sym (parted ms rise)) (behind_front (filter earlier ms) (filter here ms ++ filter later ms) at shown found.0 is among) in
-      (found.0, found.1, mapped_at (λ (m : Message). m.value) ms at found.0 there)
+      (found.0, found.1, mapped (λ (m : Message). m.value) ms at found.0 there)

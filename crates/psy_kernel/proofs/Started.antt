@@ -15,7 +15,8 @@ use Rattle.psy_machine.specs.Stepping.{AgentMachine, IsNew}
 use Rattle.psy_tree.specs.declared.unit.Point.{Point}
 use Rattle.psy_tree.specs.declared.unit.Unit.{Unit as Whole}
 use Rattle.psy_history.specs.Actions.{Action, History, Next, Opening, System, Verdict, Done, Trapped, Overran, first_action, is_done, is_silent, next_by, next_of}
-use Rattle.psy_history.specs.Executors.{agent_code_at, by_code, machine_at}
+use Rattle.psy_meaning.specs.CodeWays.{agent_code_at}
+use Rattle.psy_history.specs.Executors.{by_code, machine_at}
 use Rattle.psy_tree.specs.Parts.{agent_at}
 use Rattle.psy_history.specs.History.{action_of, history, with_start}
 use Rattle.psy_history.specs.Schedule.{Turn, is_pending, units, work}

@@ -5,6 +5,7 @@ use Rattle.std.proofs.lemmas.List.Filters.{length-filter_both}
 use Rattle.psy_base.specs.declared.limits.TheConstants.{QUEUE}
 use Rattle.psy_base.specs.declared.message.Message.{Message}
 use Rattle.psy_base.specs.declared.sizes.Sizes.{Sizes}
+use Rattle.psy_lists.proofs.lemmas.Places.{mapped}
 use Rattle.psy_log.specs.Forms.{message_line}
 use Rattle.psy_queue.specs.Order.{Queued}
 use Rattle.psy_history.specs.Actions.{System, stream_of}
@@ -17,7 +18,6 @@ use Rattle.psy_dates.specs.declared.shared.Shared.{Shared}
 use Rattle.psy_dates.specs.Standing.{SharedStands}
 use Rattle.psy_kernel.specs.Standing.{told_from}
 use Rattle.psy_kernel.specs.Telling.{IsNextTold, IsShownBy, TellsMessage, places_of}
-use Rattle.psy_kernel.proofs.ShownMessages.{mapped_at}
 use Rattle.psy_kernel.proofs.ToldStreams.{end_of, message_more, stream_over}
 
 -- The messages that become visible at a date
@@ -47,7 +47,7 @@ module _ (s : System) (sizes : Sizes) (turns : ℕ → List (Option Turn)) (date
   stream_told shown old new true queue name at named told =
       let m : Message = told.0 in (
         event_of m,
-        ap (λ ms. slice_get (map event_of ms) shown) (queue_shows queue at) ∙ mapped_at event_of (of_date date queue.messages) shown m told.1,
+        ap (λ ms. slice_get (map event_of ms) shown) (queue_shows queue at) ∙ mapped event_of (of_date date queue.messages) shown m told.1,
         told.2 ∙ ap (λ n. message_line date n m.value) named,
       )
   stream_told shown old new false queue name at named told = (

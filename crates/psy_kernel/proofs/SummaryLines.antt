@@ -4,6 +4,7 @@ use Rattle.std.specs.List.{Contains, range_with_len}
 use Rattle.std.proofs.Math.Numerals.{add-one}
 use Rattle.std.proofs.lemmas.List.FromFn.{fill_by_all, length-map-range_with_len, get_or-map-range_with_len}
 use Rattle.std.proofs.lemmas.Option.{slice_get-get_or}
+use Rattle.psy_lists.proofs.lemmas.Places.{there}
 use Rattle.psy_log.specs.Forms.{agent_line, end_line, stream_line, variable_line}
 use Rattle.psy_history.specs.Actions.{Action, System, stream_of, variable_of}
 use Rattle.psy_tree.specs.Parts.{agent_at}
@@ -22,7 +23,6 @@ use Rattle.psy_kernel.specs.Telling.{figure_in, figure_line, figured_lines, held
 use Rattle.psy_kernel.specs.Texts.{agent_end, stream_end, variable_end}
 use Rattle.psy_kernel.proofs.DatesDue.{SameReach}
 use Rattle.psy_kernel.proofs.Engines.{cycles_is, order_in, run_in, server_there, turns_in}
-use Rattle.psy_kernel.proofs.ShownMessages.{some_at}
 use Rattle.psy_kernel.proofs.Settled.{date_settled, settled_all}
 use Rattle.psy_kernel.proofs.Supplied.{supplied}
 
@@ -102,7 +102,7 @@ module _ (k : Inside) (w : EngineStands k) (done : dates_done k.shared.date ≡ 
 
     agent_told : (agent : ℕ) → agent < length s.unit.agents → figure_line k.plan.unit k.runners.items agent ≡ agent_end s turns until agent
     agent_told agent l =
-        let runner = some_at k.runners.items agent (omega (arith, l, w.run)) in
+        let runner = there k.runners.items agent (omega (arith, l, w.run)) in
         ap (λ o. agent_line (agent_at s.unit agent).name (figure_in o).count (figure_in o).slack) runner.1 ∙ figure_told agent runner.0 runner.1
 
     -- The figures, the reaches and what was held tell the summary.

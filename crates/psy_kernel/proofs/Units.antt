@@ -1,12 +1,13 @@
 -- Which processors had their unit of a cycle, and a kernel behind one more unit.
 use Rattle.std.proofs.Common.{◌≡◌, refl, sym, ap, ◌∙◌, subst, inl, inr, arith}
-use Rattle.std.specs.Prelude.{◌⊎◌, ℕ, ◌+◌, ◌*◌, ◌<◌, ◌≤◌, ◌==◌, Bool, true, false, ◌||◌, if◌then◌else◌, List, length, get_or, take, Some, slice_get, slice_set}
+use Rattle.std.specs.Prelude.{◌⊎◌, ℕ, ◌+◌, ◌*◌, ◌<◌, ◌≤◌, ◌==◌, true, false, ◌||◌, if◌then◌else◌, List, length, get_or, take, Some, slice_get, slice_set}
 use Rattle.std.specs.List.{list_any, range_with_len}
 use Rattle.std.proofs.lemmas.Bool.{cases_eq, eq-eqb, ne_eqb, or_right}
 use Rattle.std.proofs.lemmas.List.{get_or-take, get_or_default, length-set, length-take-le}
 use Rattle.std.proofs.lemmas.List.Folds.{list_any_at, list_any_more, list_any_none}
 use Rattle.std.proofs.lemmas.Nat.{mul-le}
 use Rattle.std.proofs.lemmas.Option.{get_or_from_slice_get, slice_get_within}
+use Rattle.psy_lists.proofs.lemmas.Tests.{or_false}
 use Rattle.psy_dates.proofs.lemmas.Sets.{get_set_other, get_set_same}
 use Rattle.psy_ready.specs.Choice.{ListsEach}
 use Rattle.psy_history.specs.Processors.{processors}
@@ -48,11 +49,7 @@ module _ (n : ℕ) (ns : List ℕ) (lists : ListsEach n ns) (units : ℕ) (some 
   as_before processor other =
       list_any_more (λ m. m == processor) ns units 0 within
       ∙ ap (λ b. list_any (λ m. m == processor) (take units ns) || b) (ne_eqb (get_or ns units 0) processor (λ e. other (sym e)))
-      ∙ or_none (list_any (λ m. m == processor) (take units ns))
-    where
-      or_none : (b : Bool) → (b || false) ≡ b
-      or_none true = refl
-      or_none false = refl
+      ∙ or_false (list_any (λ m. m == processor) (take units ns))
 
   -- Behind the last unit all had theirs.
   pub all_have : units + 1 ≡ n → (processor : ℕ) → processor < n → list_any (λ m. m == processor) (take (units + 1) ns) ≡ true

@@ -3,6 +3,7 @@ use Rattle.std.proofs.Common.{◌≡◌, ℕ, suc, ◌+◌, ◌<◌, ◌≤◌, 
 use Rattle.std.specs.Prelude.{if◌then◌else◌}
 use Rattle.std.proofs.lemmas.Bool.{cases_lt, lt-ltb, le-ltb}
 use Rattle.std.proofs.lemmas.Option.{get_or_from_slice_get}
+use Rattle.psy_budget.proofs.lemmas.Stalls.{more_stalled}
 use Rattle.psy_arith.specs.declared.operators.Trap.{Trap}
 use Rattle.psy_budget.specs.declared.charge.Stall.{Stall}
 use Rattle.psy_budget.specs.Charges.{cycle_of, stalled}
@@ -13,14 +14,14 @@ use Rattle.psy_code.specs.Lasting.{IsOver}
 use Rattle.psy_code.specs.Views.{Deeds}
 use Rattle.psy_machine.specs.Stepping.{AgentMachine}
 use Rattle.psy_history.specs.Actions.{Action, System, Overran, timing, verdict_by}
-use Rattle.psy_history.specs.Executors.{Acted, Carried, acted_as, agent_code_at, carried_by, machine_at}
+use Rattle.psy_meaning.specs.CodeWays.{agent_code_at}
+use Rattle.psy_history.specs.Executors.{Acted, Carried, acted_as, carried_by, machine_at}
 use Rattle.psy_history.specs.Schedule.{work}
 use Rattle.psy_meaning.specs.Timing.{end_date}
 use Rattle.psy_tree.specs.declared.unit.VarDecl.{VarDecl}
 use Rattle.psy_history.specs.Regular.{Runs, begun_by}
 use Rattle.psy_kernel.specs.declared.engine.advance.Gone.TheVariants as gone
 use Rattle.psy_kernel.specs.Acting.{IsGone, IsOfCode, came_to}
-use Rattle.psy_kernel.proofs.PaidCycles.{more_stalled}
 use Rattle.psy_kernel.proofs.RunsOn.{IsWhole, before_over, stays_over}
 
 -- What was done by a run that is over

@@ -12,7 +12,8 @@ use Rattle.psy_machine.specs.Stepping.{AgentMachine}
 use Rattle.psy_queue.specs.Order.{Queued}
 use Rattle.psy_tree.specs.declared.unit.VarDecl.{VarDecl}
 use Rattle.psy_history.specs.Actions.{Action, System, Done, Trapped, Overran, charge_of, stream_of, timing, verdict_of}
-use Rattle.psy_history.specs.Executors.{Acted, acted_as, agent_code_at, machine_at}
+use Rattle.psy_meaning.specs.CodeWays.{agent_code_at}
+use Rattle.psy_history.specs.Executors.{Acted, acted_as, machine_at}
 use Rattle.psy_meaning.specs.Kept.{Receives}
 use Rattle.psy_history.specs.Schedule.{work}
 use Rattle.psy_history.specs.Regular.{Runs, begun_by}

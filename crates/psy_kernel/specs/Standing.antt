@@ -9,7 +9,8 @@ use Rattle.psy_code.specs.Execution.{RunState, Running, run_code}
 use Rattle.psy_machine.specs.Stepping.{AgentMachine, IsNew, IsOf}
 use Rattle.psy_ready.specs.Choice.{IsPick, pending_deadline}
 use Rattle.psy_history.specs.Actions.{Action, System, Verdict, Done, stream_of}
-use Rattle.psy_history.specs.Executors.{agent_code_at, machine_at}
+use Rattle.psy_meaning.specs.CodeWays.{agent_code_at}
+use Rattle.psy_history.specs.Executors.{machine_at}
 use Rattle.psy_history.specs.History.{history}
 use Rattle.psy_history.specs.Lines.{Event, publications, shows, stops_of}
 use Rattle.psy_history.specs.Schedule.{Turn, is_pending, units}

@@ -3,6 +3,7 @@ use Rattle.std.proofs.Common.{◌≡◌, ◌∙◌, ◌+◌, ◌<◌, ◌==◌, 
 use Rattle.std.proofs.Common.{subst, nat_lt, arith}
 use Rattle.std.specs.Prelude.{if◌then◌else◌, slice_get}
 use Rattle.std.proofs.lemmas.Option.{none-some, same_Some}
+use Rattle.psy_meaning.proofs.lemmas.Running.{same_running}
 use Rattle.psy_arith.specs.declared.operators.Trap.{Trap}
 use Rattle.psy_arith.specs.declared.operators.Trap.TheVariants as trap
 use Rattle.psy_arith.specs.Operators.{is_zero}
@@ -109,9 +110,6 @@ abbrev state_of : Run → Option RunState
 state_of (Running t) = Some t
 state_of run = None
 
-running : (s t : RunState) → Running s ≡ Running t → s ≡ t
-running s t e = same_Some s t (ap state_of e)
-
 over : (run : Run) (t : RunState) → state_of run ≡ None → run ≡ Running t → ⊥
 over run t none e = none-some t (sym none ∙ ap state_of e)
 
@@ -140,7 +138,7 @@ module _ (code : Code) (agent : AgentCode) where
     from_place : (n : ℕ) (s t : RunState) (found : Option Instr) → slice_get code.instrs s.machine.place ≡ found → run_code code agent s n ≡ Running t
         → n < length (found_at way s.machine.place found) → slice_get (found_at way s.machine.place found) n ≡ Some t.machine.place
     from_place n s t None at e less = absurd (omega (arith, less))
-    from_place zero s t (Some i) at e less = ap (λ (u : RunState). Some u.machine.place) (running s t e)
+    from_place zero s t (Some i) at e less = ap (λ (u : RunState). Some u.machine.place) (same_running s t e)
     from_place (suc n) s t (Some i) at e less = behind n s t i (only_next i s.machine.place) at refl e (omega (arith, less))
 
   along : (more : ℕ) → Keeps (straight more code.instrs)

@@ -3,7 +3,7 @@ use Rattle.std.specs.Prelude.{ℕ, List, [], ◌++◌, Option, None, Some, codes
 use Rattle.std.specs.List.{range_with_len}
 use Rattle.psy_code.specs.declared.code.Code.{Code}
 use Rattle.psy_code.specs.declared.instr.Instr.{Instr}
-use Rattle.psy_meaning.specs.CodeWays.{code_of, place_of}
+use Rattle.psy_meaning.specs.CodeWays.{agent_code_at, place_of}
 use Rattle.psy_tree.specs.declared.unit.Unit.{Unit as Whole}
 use Rattle.psy_tree.specs.Parts.{agent_at}
 use Rattle.psy_listing.specs.Instructions.{instr_text}
@@ -38,7 +38,7 @@ point_text unit code lines agent point =
 
 -- The points of an agent
 abbrev pub agent_text : Whole → Code → List (List (List ℕ)) → ℕ → List ℕ
-agent_text unit code lines agent = flat_map (point_text unit code lines agent) (range_with_len 0 (length (code_of code agent).points))
+agent_text unit code lines agent = flat_map (point_text unit code lines agent) (range_with_len 0 (length (agent_code_at code agent).points))
 
 -- The points of all agents, with their lines in the program's text
 abbrev pub listing_of : Whole → Code → List (List (List ℕ)) → List ℕ

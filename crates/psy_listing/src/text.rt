@@ -2,7 +2,7 @@
 ghost use Rattle.std.specs.Prelude.{◌≡◌, ◌++◌, ◌^◌, ◌<◌, [], IfOk, OnOk, flat_map, get_or, length, slice_get};
 ghost use Rattle.std.specs.List.{range_with_len};
 ghost use Rattle.psy_gen.specs.Emission.{code_of};
-ghost use Rattle.psy_meaning.specs.CodeWays.{code_of as code_of_agent, place_of};
+ghost use Rattle.psy_meaning.specs.CodeWays.{agent_code_at, place_of};
 ghost use Rattle.psy_meaning.specs.Units.{IsOfText};
 ghost use Rattle.psy_listing.specs.Listing.{agent_text, at_text, head_line, line_of, listing_of, point_text, step_text};
 
@@ -181,7 +181,7 @@ fn nth(places: &[u32], number: usize) -> u32
 
 // The places of an agent's points.
 fn points_of(code: &Code, agent: usize) -> &[u32]
-    ensures { result.now ≡ (code_of_agent code.now agent).points }
+    ensures { result.now ≡ (agent_code_at code.now agent).points }
 {
     match code.agents.as_slice().get(agent) {
         Some(agent) => agent.points.as_slice(),

@@ -1,5 +1,5 @@
 -- What the inputs of a program publish, behind the notes of its run.
-use Rattle.std.proofs.Common.{◌≡◌, ◌∙◌, ℕ, ℤ, zero, suc, ◌+◌, ◌-◌, ◌≤◌, ◌==◌, ◌&&◌, ◌||◌, Bool, true, false, List, [], ◌∷◌, ◌++◌, Option, None, Some, append-nil, cond, drop, length, map, max, nat_le, not, option_map, pos, refl, sym, ap, subst, arith}
+use Rattle.std.proofs.Common.{◌≡◌, ◌∙◌, ℕ, ℤ, zero, suc, ◌+◌, ◌-◌, ◌≤◌, ◌==◌, ◌||◌, Bool, true, false, List, [], ◌∷◌, ◌++◌, Option, None, Some, append-nil, cond, drop, length, map, max, nat_le, not, option_map, pos, refl, sym, ap, subst, arith}
 use Rattle.std.specs.Prelude.{bytes_eq, get_or, slice_get}
 use Rattle.std.specs.List.{flat_map, fold, list_all, list_any, position, position_from}
 use Rattle.std.proofs.lemmas.Bool.{and_parts, false≢true}
@@ -9,6 +9,7 @@ use Rattle.std.proofs.lemmas.List.Elements.{filter-append}
 use Rattle.std.proofs.lemmas.List.Folds.{list_all-append, list_any-append}
 use Rattle.std.proofs.lemmas.List.Sums.{fold-append}
 use Rattle.std.proofs.lemmas.Slice.Eq.{bytes_eq-Decides}
+use Rattle.psy_lists.proofs.lemmas.Tests.{both, or_false, or_true}
 use Rattle.psy_clock.specs.Dates.{date}
 use Rattle.psy_clock.specs.declared.clock.Clock.{Clock}
 use Rattle.psy_draw.specs.Dates.{date_of, last_date}
@@ -23,13 +24,6 @@ use Rattle.psy_tree.specs.declared.unit.StreamDecl.{StreamDecl}
 use Rattle.psy_tree.specs.declared.unit.VarDecl.{VarDecl}
 use Rattle.psy_tree.specs.declared.unit.Unit.{Unit as Whole}
 use Rattle.psy_tree.specs.Parts.{clock_in, variable_at}
-
-or_false : (b : Bool) → (b || false) ≡ b
-or_false true = refl
-or_false false = refl
-
-both : (a b : Bool) → a ≡ true → b ≡ true → (a && b) ≡ true
-both a b p q = ap (λ t. t && b) p ∙ q
 
 -- ---- values alone
 
@@ -96,10 +90,6 @@ module _ (names : List (List ℕ)) (notes more : List Note) (all : AreValues nam
   same_listed _ = refl
 
 -- ---- the name of a variable
-
-or_true : (b : Bool) → (b || true) ≡ true
-or_true true = refl
-or_true false = refl
 
 -- It is among those of all.
 pub name_among : (variables : List VarDecl) (n : ℕ) (v : VarDecl) → slice_get variables n ≡ Some v

@@ -1,17 +1,12 @@
 -- What is given of each number of a range, one number more.
-use Rattle.std.proofs.Common.{◌≡◌, ℕ, ◌+◌, List, [], ◌∷◌, ◌++◌, map, refl, sym, ap, ◌∙◌, arith}
+use Rattle.std.proofs.Common.{◌≡◌, ℕ, ◌+◌, List, [], ◌∷◌, ◌++◌, map, refl, sym, ap, ◌∙◌}
 use Rattle.std.specs.List.{flat_map, range_with_len}
 use Rattle.std.proofs.lemmas.List.{flat_map_more}
-use Rattle.std.proofs.lemmas.List.FromFn.{map-range_with_len_more}
+use Rattle.psy_lists.proofs.lemmas.Ranges.{range_more}
 
 map_same : (xs : List ℕ) → map (λ (k : ℕ). k) xs ≡ xs
 map_same [] = refl
 map_same (x ∷ xs) = ap (λ ys. x ∷ ys) (map_same xs)
-
-range_more : (n : ℕ) → range_with_len 0 (n + 1) ≡ range_with_len 0 n ++ n ∷ []
-range_more n =
-    let same : 0 + n ≡ n = omega arith in
-    sym (map_same (range_with_len 0 (n + 1))) ∙ map-range_with_len_more (λ (k : ℕ). k) 0 n n same ∙ ap (λ xs. xs ++ n ∷ []) (map_same (range_with_len 0 n))
 
 pub numbered : {A : Type 0} (f : ℕ → List A) (n : ℕ) (old now new : List A) → now ≡ old ++ flat_map f (range_with_len 0 n) → new ≡ now ++ f n
     → new ≡ old ++ flat_map f (range_with_len 0 (n + 1))

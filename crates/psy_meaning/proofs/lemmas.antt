@@ -7,4 +7,7 @@ pub mod Leasts
 pub mod NoWays
 pub mod RestPieces
 pub mod RestsOf
+pub mod Running
+pub mod SlotCells
+pub mod SomeSendings
 pub mod SoundParts

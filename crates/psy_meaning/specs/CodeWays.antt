@@ -48,13 +48,13 @@ IsOnWay instrs from i = (point place : ℕ) × (places : List ℕ) × IsCodeWay 
 
 -- ---- where a point stands
 
--- The code of an agent
-abbrev pub code_of : Code → ℕ → AgentCode
-code_of code agent = get_or code.agents agent (record { points = []; cells = []; counters = 0; copies = []; stack = 0; frames = 0 })
+-- The code of an agent: one without points where there is none
+abbrev pub agent_code_at : Code → ℕ → AgentCode
+agent_code_at code agent = get_or code.agents agent (record { points = []; cells = []; counters = 0; copies = []; stack = 0; frames = 0 })
 
 -- The place of a point of an agent
 abbrev pub place_of : Code → ℕ → ℕ → ℕ
-place_of code agent point = get_or (code_of code agent).points point 0
+place_of code agent point = get_or (agent_code_at code agent).points point 0
 
 -- ---- next points, looks, sends
 

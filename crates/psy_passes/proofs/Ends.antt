@@ -52,10 +52,6 @@ pub if_err : {A E : Type 0} (r : Result A E) (P Q : E → Type 0) → IfErr r P 
 if_err (Ok a) P Q is on = tt
 if_err (Err e) P Q is on = on e is
 
--- What went well didn't fail.
-pub ok_err : {A E : Type 0} (r : Result A E) (a : A) (e : E) → r ≡ Ok a → r ≡ Err e → ⊥
-ok_err r a e ok err = cc (ok, err)
-
 -- One more piece was read, and lines were taken of it.
 pub reads_on : (files now : Option Files) (name bytes piece next left rest behind : List ℕ) (notes after : List Note) → now ≡ files
     → WhereTold files (λ held. bytes_under held name ≡ text_of notes ++ (bytes ++ rest)) → next ≡ bytes ++ piece → WhereTold now (λ _. rest ≡ piece ++ behind)

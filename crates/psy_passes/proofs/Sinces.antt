@@ -1,5 +1,5 @@
 -- What a fault of a file that was read before says.
-use Rattle.std.proofs.Common.{◌≡◌, ◌≢◌, ◌∙◌, refl, ap, ℕ, List, ◌++◌, Option, None, Result, Ok, Err}
+use Rattle.std.proofs.Common.{◌≡◌, ◌≢◌, ◌∙◌, refl, ap, ℕ, List, ◌++◌, Option, None, Ok}
 use Rattle.psy_door.specs.Files.{Files}
 use Rattle.psy_log.specs.declared.note.Note.{Note}
 use Rattle.psy_notes.specs.Texts.{text_of}
@@ -14,10 +14,6 @@ use Rattle.psy_passes.specs.NameChecks.{AreNamesOf, RefusesOther, TellsListed}
 use Rattle.psy_passes.specs.Outcomes.{IsOfNames, IsOfTelling, since}
 use Rattle.psy_passes.proofs.Surveyed.{ChangedSince, FoundUnlisted, HaltsAt, changed_line, changed_many, changed_name, unrefused}
 use Rattle.psy_passes.proofs.Twice.{NotBoth, OneFront}
-
--- Faults that are the same as errors are the same.
-pub err_is : {A E : Type 0} (some other : E) → ◌≡◌ {A = Result A E} (Err some) (Err other) → some ≡ other
-err_is some other is = cc
 
 pub not_unlisted : (why : ScanFault) (line : ℕ) → since why ≡ fault.Unlisted line → ⊥
 not_unlisted (scan.Line at) line is = cc

@@ -1,8 +1,6 @@
 -- What a scan says of a run, where the names of its summary are known.
-use Rattle.std.proofs.Common.{◌≡◌, ◌≢◌, ◌∙◌, ◌⊎◌, inl, inr, refl, sym, ap, subst, ℕ, ◌+◌, Bool, true, false, not, bytes_eq, List, [], ◌∷◌, ◌++◌, Option, None, Some, option_map, append-nil}
+use Rattle.std.proofs.Common.{◌≡◌, ◌≢◌, ◌∙◌, ◌⊎◌, inl, inr, refl, sym, ap, subst, ℕ, ◌+◌, not, List, [], ◌∷◌, ◌++◌, Option, None, Some, option_map, append-nil}
 use Rattle.std.specs.List.{position}
-use Rattle.std.proofs.lemmas.Bool.{false≢true}
-use Rattle.std.proofs.lemmas.Slice.Eq.{bytes_eq-Decides}
 use Rattle.psy_door.specs.Files.{Files, WhereTold, bytes_under}
 use Rattle.psy_door.specs.Growth.{Grew, GrewByFront}
 use Rattle.psy_log.specs.declared.note.Note.{Note}
@@ -71,17 +69,6 @@ name_unlisted found files name listed tail now old new a b line names is none no
     (done.0, done.2, sym first ∙ other)
 
 -- ---- the file changed
-
--- Bytes that are told apart differ, and those that aren't are the same.
-pub differ_by : (some other : List ℕ) → true ≡ not (bytes_eq some other) → some ≢ other
-differ_by some other told same = false≢true (sym (told ∙ ap not ((bytes_eq-Decides some other).1 same)))
-
-pub same_by : (some other : List ℕ) → false ≡ not (bytes_eq some other) → some ≡ other
-same_by some other told = (bytes_eq-Decides some other).0 (both (bytes_eq some other) told)
-  where
-    both : (b : Bool) → false ≡ not b → b ≡ true
-    both true is = refl
-    both false is = absurd (false≢true is)
 
 -- The file changed, where it was a run before whose end and summary had these lines.
 abbrev pub ChangedSince : Option Files → List ℕ → List ℕ → Type 0

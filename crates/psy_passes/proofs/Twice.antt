@@ -5,6 +5,7 @@ use Rattle.std.specs.Prelude.{IfOk, Result, Ok, Err}
 use Rattle.std.proofs.lemmas.Bool.{false≢true}
 use Rattle.std.proofs.lemmas.List.{length-map, map-append}
 use Rattle.psy_base.specs.declared.memory.Memory.{Memory}
+use Rattle.psy_lists.proofs.lemmas.Places.{none_left}
 use Rattle.psy_door.specs.Files.{Files}
 use Rattle.psy_log.specs.declared.note.Note.{Note}
 use Rattle.psy_log.specs.declared.form.Form.{Form}
@@ -35,11 +36,6 @@ abbrev pub OneFront : Type 0
 OneFront = (first : Stand) (text : List ℕ) (notes fronts : List Note) (mid : Stand) (rest : List ℕ) → IsText first text notes → Leads first fronts mid
     → text ≡ text_of fronts ++ rest
     → (more : List Note) × (rest ≡ text_of more) × (length more ≤ length rest) × (map says notes ≡ map says fronts ++ map says more)
-
--- No notes
-none_left : {X : Type 0} (xs : List X) → length xs ≤ 0 → xs ≡ []
-none_left [] few = refl
-none_left (x ∷ xs) few = absurd (omega (arith, few))
 
 -- Two readings of a whole text say the same.
 both_whole : OneFront → (text : List ℕ) (notes others : List Note) → IsText run_begins text notes → IsText run_begins text others → map says notes ≡ map says others

@@ -2,3 +2,4 @@
 pub mod Distinct
 pub mod Growth
 pub mod Notes
+pub mod ToldApart

@@ -1,3 +1,3 @@
 -- The lemmas of this crate, by subject.
-mod Orders
 mod Expiries
+pub mod lemmas

@@ -1,13 +1,12 @@
 -- Agents one by one: what each demands of a processor, sums over them, and the lines of those that a processor serves.
-use Rattle.std.proofs.Common.{◌≡◌, ◌∙◌, ℕ, ◌+◌, Bool, true, false, List, [], ◌∷◌, ◌++◌, get_or, refl, sym, ap, arith, append_assoc, append-nil}
+use Rattle.std.proofs.Common.{◌≡◌, ◌∙◌, ℕ, ◌+◌, Bool, true, false, List, [], ◌∷◌, ◌++◌, get_or, refl, sym, ap, append_assoc, append-nil}
 use Rattle.std.specs.Prelude.{if◌then◌else◌}
-use Rattle.std.specs.List.{filter, flat_map, range_with_len, sum_by}
+use Rattle.std.specs.List.{filter, flat_map, range_with_len}
 use Rattle.std.proofs.lemmas.Bool.{eq-eqb, ne_eqb}
 use Rattle.std.proofs.lemmas.Grind.{flat_map-append}
 use Rattle.std.proofs.lemmas.List.Elements.{filter-append}
-use Rattle.std.proofs.lemmas.List.Sums.{sum_by-append, sum_by-cons}
+use Rattle.psy_lists.proofs.lemmas.Ranges.{range_more}
 use Rattle.psy_demand.specs.Demand.{demand_of}
-use Rattle.psy_feed.proofs.lemmas.Ranges.{range_more}
 use Rattle.psy_history.specs.Processors.{processor_at}
 use Rattle.psy_tree.specs.declared.unit.Unit.{Unit as Whole}
 use Rattle.psy_tree.specs.Parts.{homes}
@@ -22,10 +21,6 @@ module _ (unit : Whole) (lists : List (List ℕ)) (processor within agent : ℕ)
   pub demand_of_other : (processor_at unit agent ≡ processor → ⊥) → demand_of lists (homes unit) processor within agent ≡ 0
   unfolding processor_at
   demand_of_other other = rw (ne_eqb (get_or (homes unit) agent 0) processor other) refl
-
--- The sum of one number more
-pub sum_more : (f : ℕ → ℕ) (n : ℕ) → sum_by f (range_with_len 0 (n + 1)) ≡ sum_by f (range_with_len 0 n) + f n
-sum_more f n = omega (arith, ap (sum_by f) (range_more n), sum_by-append f (range_with_len 0 n) (n ∷ []), sum_by-cons f n [])
 
 module _ (line : ℕ → List ℕ) (own : ℕ → Bool) where
   -- The lines of those, among the first so many, that are own ones

@@ -6,10 +6,10 @@ ghost use Rattle.psy_graph.specs.Graphs.{IsSmall};
 ghost use Rattle.psy_source.specs.Programs.{Stops};
 ghost use Rattle.psy_report.specs.Measured.{IsLine, IsUnlisted};
 
-use crate::lists::push;
 use psy_base::{Items, Memory};
 use psy_demand::weights_of_all;
 use psy_graph::Graph;
+use psy_lists::push;
 use psy_rate::{Rate, certify};
 use psy_source::{Refusal, Stop};
 use psy_window::WindowFault;

@@ -7,7 +7,6 @@ mod asked;
 mod demands;
 mod depths;
 mod graphs;
-mod lists;
 mod measures;
 mod peak;
 mod piece;

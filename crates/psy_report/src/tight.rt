@@ -7,9 +7,9 @@ ghost use Rattle.psy_meaning.specs.Units.{IsBare};
 ghost use Rattle.psy_tree.specs.Parts.{homes};
 ghost use Rattle.psy_report.specs.Tightness.{AreTightest, IsTightest, demand_on};
 
-use crate::lists::push;
 use psy_base::{Items, Memory};
 use psy_history::{processor_of, processors_of};
+use psy_lists::push;
 use psy_tree::Unit;
 use std::alloc::Global;
 

@@ -15,6 +15,7 @@ use Rattle.psy_meaning.specs.Units.{IsOfText}
 use Rattle.psy_script.specs.Inputs.{AreListsOf}
 use Rattle.psy_script.specs.Script.{IsScriptOf}
 use Rattle.psy_tree.specs.declared.unit.Unit.{Unit as Whole}
+use Rattle.psy_history.proofs.lemmas.NoInputs.{are_no_inputs}
 use Rattle.psy_run.specs.Accepted.{IsRunnable}
 use Rattle.psy_run.specs.Answer.{Answers, refused, served, Supply, compiling, supplying, listing, scripting, running, trying, serving, answering}
 use Rattle.psy_run.specs.Asked.{Asks, Command, Run, Check, Graph, Make, Trial}
@@ -22,12 +23,12 @@ use Rattle.psy_run.specs.Bounds.{IsBounded, IsBorneOut, KeepsBounds}
 use Rattle.psy_run.specs.Courses.{in_row}
 use Rattle.psy_run.specs.Planned.{IsStatedPlan}
 use Rattle.psy_run.specs.Services.{Service, Ran, meaning_of, no_inputs, no_script}
-use Rattle.psy_run.proofs.AskingForms.{one_asking}
+use Rattle.psy_run.proofs.AskingForms.{decided_asking}
 use Rattle.psy_run.proofs.Courses.{gives_then}
+use Rattle.psy_run.proofs.DecidedAnswers.{compiled, translated}
+use Rattle.psy_run.proofs.DecidedSteps.{TextsHold}
 use Rattle.psy_run.proofs.MeaningText.{Keeps, is_no_script}
-use Rattle.psy_run.proofs.OneAnswer.{compiled, translated}
-use Rattle.psy_run.proofs.OneStep.{TextsHold}
-use Rattle.psy_run.proofs.PlanLemmas.{Apart, are_no_inputs, is_feasible_for}
+use Rattle.psy_run.proofs.PlanLemmas.{Apart, is_feasible_for}
 use Rattle.psy_run.proofs.SupplyLemmas.{AllMet, supply_is}
 use Rattle.psy_run.proofs.TopLemmas.{AllBounded, status_some}
 
@@ -130,7 +131,7 @@ accepted_by : (files : Files) (words : List (List ℕ)) (program : List ℕ) (un
 unfolding in_row
 accepted_by files words program until text asks answers =
     let (done, (command, asked, gives)) = given_by words (Some files) 0 text answers refl in
-    let same : command ≡ Check program until = (one_asking words).gift command (Check program until) asked asks in
+    let same : command ≡ Check program until = (decided_asking words).one.gift command (Check program until) asked asks in
     let (unit, made, (supply, supplied, is)) = subst (λ c. (serving (Some files) c).gives done) same gives in
     record { unit = unit; supply = supply; made = made; supplied = supplied }
 

@@ -3,14 +3,10 @@ use Rattle.std.proofs.Common.{◌≡◌, ◌∙◌, sym, subst, ap, refl, ℕ, z
 use Rattle.std.specs.Prelude.{◌^◌, nat_lt, nat_le, option_and_then}
 use Rattle.std.proofs.lemmas.Bool.{ltb-true, leb-true, lt-ltb, le-leb}
 use Rattle.std.proofs.lemmas.Option.{cond_some, option_and_then_some}
-use Rattle.std.proofs.lemmas.Slice.Eq.{bytes_eq-Decides}
 use Rattle.psy_base.specs.declared.limits.TheConstants.{UNTIL}
+use Rattle.psy_lists.proofs.lemmas.Texts.{same_text}
 use Rattle.psy_text.specs.Words.{number_of}
 use Rattle.psy_run.specs.Asked.{IsDate, IsSeed, Command, Run, Check, Graph, Make, Trial, Asks, asks_run, asks_run_with_inputs, asks_run_with_script, asks_check, asks_graph, asks_make, asks_trial, AskNothing}
-
--- Texts that aren't told apart are the same
-pub same_text : (a b : List ℕ) → true ≡ bytes_eq a b → a ≡ b
-same_text a b e = (bytes_eq-Decides a b).0 (sym e)
 
 -- What is made from the items from one place on, item by item
 pub map-next : {X Y : Type 0} {x : X} {y : Y} {ys : List Y} (f : X → Y) (xs : List X) (k : ℕ) → k < length xs → x ≡ get_or xs k x → y ≡ f x → map f (drop (suc k) xs) ≡ ys → map f (drop k xs) ≡ y ∷ ys

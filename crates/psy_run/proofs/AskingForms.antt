@@ -1,11 +1,12 @@
--- The words ask for one command at most, and for one or none.
+-- The words ask for one command, or for none.
 use Rattle.std.proofs.Common.{◌≡◌, ◌∙◌, sym, subst, ap, refl, ℕ, List, [], ◌∷◌, ◌⊎◌, inl, inr, Option, Some, None, Bool, true, false, if◌then◌else◌, bytes_eq, codes}
 use Rattle.std.proofs.lemmas.Option.{none-some, same_Some, option_and_then_some}
+use Rattle.psy_lists.proofs.lemmas.Texts.{same_text}
 use Rattle.psy_run.specs.declared.refusal.Refusal.TheVariants.{Words}
 use Rattle.psy_run.specs.Asked.{Command, Asks, asks_run, asks_run_with_inputs, asks_run_with_script, asks_check, asks_graph, asks_make, asks_trial}
 use Rattle.psy_run.specs.Steps.{asking}
-use Rattle.psy_run.proofs.AskedLemmas.{same_text, date_of, from_date, seed_of, from_seed, command_of, to_command}
-use Rattle.psy_run.proofs.Courses.{IsOne, IsSome}
+use Rattle.psy_run.proofs.AskedLemmas.{date_of, from_date, seed_of, from_seed, command_of, to_command}
+use Rattle.psy_run.proofs.Courses.{IsSome, IsDecided}
 
 -- What comes where the first word is this one, or what comes where it is another
 chosen : (word name : List ℕ) (this other : Option Command) (command : Command) → (if bytes_eq word name then this else other) ≡ Some command → ((word ≡ name) × (this ≡ Some command)) ⊎ (other ≡ Some command)
@@ -68,15 +69,15 @@ from_command (a ∷ b ∷ c ∷ d ∷ e ∷ f ∷ words) command is = absurd (no
 
 -- ---- the step
 
-pub one_asking : (words : List (List ℕ)) → IsOne (asking words)
-one_asking words = record {
-  gift = λ x y p q. same_Some x y (sym (to_command words x p) ∙ to_command words y q);
-  stop = λ r s p q. p.0 ∙ sym q.0;
-  apart = λ x r p q. q.1 x p;
+pub decided_asking : (words : List (List ℕ)) → IsDecided (asking words)
+decided_asking words = record {
+  one = record {
+    gift = λ x y p q. same_Some x y (sym (to_command words x p) ∙ to_command words y q);
+    stop = λ r s p q. p.0 ∙ sym q.0;
+    apart = λ x r p q. q.1 x p;
+  };
+  some = by (command_of words) refl;
 }
-
-pub some_asking : (words : List (List ℕ)) → IsSome (asking words)
-some_asking words = by (command_of words) refl
   where
     by : (found : Option Command) → command_of words ≡ found → IsSome (asking words)
     by (Some command) is = inl (command, from_command words command is)

@@ -1,10 +1,10 @@
--- Courses step by step: how they are left, that they come to one end, and that they come to some.
+-- Courses step by step: how they are left, that they come to one end, that they come to some, and that they do both.
 use Rattle.std.proofs.Common.{◌≡◌, ◌∙◌, sym, subst, refl, ℕ, List, ◌⊎◌, inl, inr, Result, Ok, Err, IfOk, IfErr}
 use Rattle.std.specs.Result.{IsErrAnd}
 use Rattle.psy_run.specs.declared.refusal.Refusal.{Refusal}
 use Rattle.psy_run.specs.declared.refusal.Stop.{Stop}
 use Rattle.psy_run.specs.declared.refusal.Stop.TheVariants.{Memory}
-use Rattle.psy_run.specs.Courses.{Course, pure, unless, in_row}
+use Rattle.psy_run.specs.Courses.{Course, step, pure, unless, in_row}
 use Rattle.psy_run.specs.Outcome.{Halts, halts_refused, halts_unread, halts_memory}
 
 -- ---- in a row
@@ -121,3 +121,26 @@ some_then c f (inl gift) later = elim (later gift.0 gift.1) [
   | inl next ↦ inl (next.0, (gift.0, gift.1, next.1))
   | inr stop ↦ inr (stop.0, inr (gift.0, gift.1, stop.1))
 ]
+
+-- ---- some end, and no other
+
+-- It comes to some end, and to one at most.
+pub record IsDecided {X : Type 0} (c : Course X) : Type 0 where
+  pub one : IsOne c
+  pub some : IsSome c
+
+-- No step any more
+pub decided_pure : {X : Type 0} (x : X) → IsDecided (pure x)
+decided_pure x = record { one = one_pure x; some = some_pure x }
+
+-- One step that never stops, where it gives something, and nothing else
+pub decided_given : {X : Type 0} (Gives : X → Type 0) → ((x y : X) → Gives x → Gives y → x ≡ y) → (x : X) × Gives x → IsDecided (step Gives (λ refusal. ⊥))
+decided_given Gives same some = record { one = record { gift = same; stop = λ r s p q. absurd p; apart = λ x r p q. q }; some = inl some }
+
+-- A test, which passes or fails, and not both
+pub decided_unless : (Holds Fails : Type 0) (refusal : Refusal) → (Holds → Fails → ⊥) → Holds ⊎ Fails → IsDecided (unless Holds Fails refusal)
+decided_unless Holds Fails refusal never either = record { one = one_unless Holds Fails refusal never; some = some_unless Holds Fails refusal either }
+
+-- One course, and with what it gives another
+pub decided_then : {X Y : Type 0} (c : Course X) (f : X → Course Y) → IsDecided c → ((x : X) → c.gives x → IsDecided (f x)) → IsDecided (in_row c f)
+decided_then c f first later = record { one = one_then c f first.one (λ x gives. (later x gives).one); some = some_then c f first.some (λ x gives. (later x gives).some) }

@@ -3,12 +3,12 @@ use Rattle.std.proofs.Common.{◌≡◌, ◌∙◌, sym, ap, subst, refl, ℕ, s
 use Rattle.std.specs.List.{flat_map, range_with_len}
 use Rattle.std.proofs.lemmas.Grind.{flat_map-append}
 use Rattle.std.proofs.lemmas.Option.{slice_get_within, get_or_from_slice_get}
+use Rattle.psy_run.proofs.lemmas.Growth.{Grew-trans}
 use Rattle.psy_door.specs.Growth.{Grew}
 use Rattle.psy_kernel.specs.Texts.{lines_of, log_of, text_of}
 use Rattle.psy_log.specs.declared.write.WriteFault.{WriteFault}
 use Rattle.psy_history.specs.Actions.{System}
 use Rattle.psy_run.specs.Cuts.{IsCutAt, log_lines}
-use Rattle.psy_run.proofs.GrowthLemmas.{Grew-trans}
 use Rattle.psy_run.proofs.LogLemmas.{dates-more, dates-next, log-whole}
 
 text_of-append : (xs ys : List (List ℕ)) → text_of (xs ++ ys) ≡ text_of xs ++ text_of ys

@@ -1,10 +1,10 @@
 -- What psyc compiles and plans fits: its code goes well by the lists of the ways of its program's statements.
-use Rattle.std.proofs.Common.{◌≡◌, ◌∙◌, refl, sym, ap, subst, ℕ, ◌<◌, ◌≤◌, List, [], ◌∷◌, All, length, map, Option, None, Some, arith}
+use Rattle.std.proofs.Common.{◌≡◌, ◌∙◌, refl, sym, ap, subst, ℕ, ◌<◌, ◌≤◌, List, [], ◌∷◌, length, map, Option, None, Some, arith}
 use Rattle.std.specs.Prelude.{slice_get, FitsSigned}
 use Rattle.std.specs.Int.{w32}
-use Rattle.std.proofs.lemmas.List.Elements.{All-nil, All-cons, All-head, All-tail}
 use Rattle.std.proofs.lemmas.Option.{slice_get-get_or}
 use Rattle.psy_base.specs.declared.ways.Ways.{Ways as WayLists}
+use Rattle.psy_lists.proofs.lemmas.Members.{all_unmapped}
 use Rattle.psy_code.specs.declared.code.Code.{Code}
 use Rattle.psy_code.specs.declared.code.CopyInit.{CopyInit}
 use Rattle.psy_code.specs.declared.look.Sent.{Sent}
@@ -16,7 +16,8 @@ use Rattle.psy_flow.specs.Readings.{AreAlike}
 use Rattle.psy_graph.specs.Graphs.{IsTimed}
 use Rattle.psy_history.specs.Actions.{System, first_action, timing}
 use Rattle.psy_history.specs.Compiled.{coded}
-use Rattle.psy_history.specs.Executors.{Carried, agent_code_at, by_code}
+use Rattle.psy_meaning.specs.CodeWays.{agent_code_at}
+use Rattle.psy_history.specs.Executors.{Carried, by_code}
 use Rattle.psy_history.specs.Fitting.{FitsBy, IsCodeFor, undisturbed}
 use Rattle.psy_history.specs.Openings.{MayCarry}
 use Rattle.psy_history.specs.Regular.{MayAsk}
@@ -30,11 +31,6 @@ use Rattle.psy_meaning.specs.Sendings.{delay_of}
 use Rattle.psy_meaning.specs.Timing.{MayStart, first, later}
 use Rattle.psy_meaning.specs.Ways.{sending_of}
 use Rattle.psy_run.specs.Services.{no_inputs}
-
--- What holds of all that a list is mapped to holds of the list.
-unmapped : {X Y : Type 0} (P : Y → Type 0) (f : X → Y) (xs : List X) → All P (map f xs) → All (λ x. P (f x)) xs
-unmapped P f [] all = All-nil (λ x. P (f x))
-unmapped P f (x ∷ xs) all = All-cons (λ x. P (f x)) x xs (All-head P (f x) (map f xs) all) (unmapped P f xs (All-tail P (f x) (map f xs) all))
 
 -- The copies of a code are of the variables that they begin with.
 variables_from : (copies : List CopyInit) → map (λ (c : Copy). c.variable) (map copy_from copies) ≡ map (λ (c : CopyInit). c.variable) copies
@@ -72,7 +68,7 @@ module _ (unit : Whole) (code : Code) (ways : WayLists) (acts : ActsAlike unit c
           points = (acts.each agent (agent_at unit agent) its (at agent less) (slice_get-get_or code.agents agent _ known)).points;
           cells = carries.values;
           copies = sym (variables_from its.copies) ∙ carries.variables;
-          inits = unmapped (λ (c : Copy). FitsSigned w32 c.value) copy_from its.copies carries.copies;
+          inits = all_unmapped (λ (c : Copy). FitsSigned w32 c.value) copy_from its.copies carries.copies;
         };
   }
 

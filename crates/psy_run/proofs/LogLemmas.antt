@@ -7,6 +7,8 @@ use Rattle.std.proofs.lemmas.Grind.{flat_map-append}
 use Rattle.std.proofs.lemmas.List.{take_all}
 use Rattle.std.proofs.lemmas.Option.{slice_get_within, get_or_from_slice_get}
 use Rattle.std.proofs.Math.Nat.{eq-or-lt_of_le}
+use Rattle.psy_run.proofs.lemmas.Growth.{Grew-trans}
+use Rattle.psy_lists.proofs.lemmas.Ranges.{range_longer}
 use Rattle.psy_door.specs.Growth.{Grew, GrewByFront}
 use Rattle.psy_kernel.specs.declared.stage.Stage.TheVariants.{DateDue}
 use Rattle.psy_kernel.specs.Engines.{lines_at}
@@ -15,7 +17,6 @@ use Rattle.psy_kernel.specs.Texts.{lines_of, log_of, text_of}
 use Rattle.psy_dates.specs.Beginnings.{beginning_of}
 use Rattle.psy_history.specs.Actions.{System}
 use Rattle.psy_history.specs.Summary.{dates_from}
-use Rattle.psy_run.proofs.GrowthLemmas.{Grew-trans}
 use Rattle.psy_run.proofs.TextLemmas.{items_more, items_split}
 use Rattle.psy_run.proofs.WritingLemmas.{GrewByFront-append, Grew-GrewByFront, Grew-item, GrewByFront-item}
 
@@ -38,10 +39,6 @@ Grew-lines a b lines n all grew = subst (λ ls. Grew a b (text_of ls)) (take_all
 
 -- ---- dates
 
-range_more : (a n : ℕ) → range_with_len a (suc n) ≡ range_with_len a n ++ (a + n) ∷ []
-range_more a zero = let e : a ≡ a + 0 = omega arith in ap (λ m. m ∷ []) e
-range_more a (suc n) = let e : a + 1 + n ≡ a + suc n = omega arith in ap (λ rest. a ∷ rest) (range_more (a + 1) n ∙ ap (λ m. range_with_len (a + 1) n ++ m ∷ []) e)
-
 module _ {X : Type 0} (of : ℕ → List X) where
   -- What is told of the first dates
   abbrev first_dates : ℕ → List X
@@ -50,7 +47,7 @@ module _ {X : Type 0} (of : ℕ → List X) where
   dates-suc : (n : ℕ) → first_dates (suc n) ≡ first_dates n ++ of n
   dates-suc n =
       let e : 0 + n ≡ n = omega arith in
-      ap (flat_map of) (range_more 0 n) ∙ flat_map-append of (range_with_len 0 n) ((0 + n) ∷ []) ∙ ap (λ told. first_dates n ++ told) (append-nil (of (0 + n))) ∙ ap (λ m. first_dates n ++ of m) e
+      ap (flat_map of) (range_longer 0 n) ∙ flat_map-append of (range_with_len 0 n) ((0 + n) ∷ []) ∙ ap (λ told. first_dates n ++ told) (append-nil (of (0 + n))) ∙ ap (λ m. first_dates n ++ of m) e
 
   pub dates-next : (n : ℕ) → first_dates (n + 1) ≡ first_dates n ++ of n
   dates-next n = ap first_dates (add-one n) ∙ dates-suc n

@@ -30,7 +30,7 @@ use Rattle.psy_run.specs.Services.{HasRun, Leaves, meaning_of, no_inputs, no_scr
 use Rattle.psy_run.specs.Services as service
 use Rattle.psy_run.specs.declared.served.Served.{Served}
 use Rattle.psy_run.specs.declared.served.Served.TheVariants as served
-use Rattle.psy_run.proofs.PlanLemmas.{are_no_inputs}
+use Rattle.psy_history.proofs.lemmas.NoInputs.{are_no_inputs}
 
 -- ---- what the law says of code and statements that are alike
 

@@ -2,6 +2,8 @@
 use Rattle.std.proofs.Common.{◌≡◌, ◌∙◌, sym, ap, subst, ℕ, zero, suc, ◌<◌, ◌≤◌, List, [], ◌∷◌, map, length, get_or, slice_get, Some, ℤ, arith}
 use Rattle.std.proofs.lemmas.List.{length-map}
 use Rattle.std.proofs.lemmas.Option.{slice_get_within, slice_get-get_or, get_or_from_slice_get}
+use Rattle.psy_demand.proofs.lemmas.EdgesOf.{edges_at}
+use Rattle.psy_lists.proofs.lemmas.Places.{there}
 use Rattle.psy_dates.specs.declared.plan.Plan.{Plan}
 use Rattle.psy_dates.specs.Plans.{IsFeasibleFor, system_of}
 use Rattle.psy_demand.specs.Criterion.{edges_of}
@@ -21,8 +23,7 @@ use Rattle.psy_meaning.specs.Timing.{Timing, timing_of}
 use Rattle.psy_tree.specs.declared.unit.Unit.{Unit as Whole}
 use Rattle.psy_run.specs.Answer.{Supply}
 use Rattle.psy_run.specs.Services.{no_inputs}
-use Rattle.psy_run.proofs.RowLemmas.{there}
-use Rattle.psy_run.proofs.SupplyLemmas.{IsSupply, edges_at}
+use Rattle.psy_run.proofs.SupplyLemmas.{IsSupply}
 
 -- ---- a plan's graphs
 
@@ -64,17 +65,3 @@ module _ (one : (unit : Whole) (number : ℕ) (timing other : Timing) → IsTimi
     drawn = are_edges plan supply.graphs follow is.drawn;
     feasible = apart plan.unit (edges_of supply.graphs) plan.unit.quantum plan.until bare is.feasible;
   }
-
--- ---- no inputs
-
-empty_at : {X : Type 0} (xs : List X) (i : ℕ) (list : List ℤ) → slice_get (map (λ x. []) xs) i ≡ Some list → list ≡ []
-empty_at [] i list at = cc
-empty_at (x ∷ xs) zero list at = cc
-empty_at (x ∷ xs) (suc i) list at = empty_at xs i list at
-
-pub are_no_inputs : (unit : Whole) → AreInputs unit (no_inputs unit)
-are_no_inputs unit = record {
-  count = length-map unit.variables (λ v. []);
-  values = λ k d less. subst AllFit (sym (empty_at unit.variables k (get_or (no_inputs unit) k d) (slice_get-get_or (no_inputs unit) k d less))) (λ i e none. absurd (omega (arith, none)));
-  owned = λ variable owner list is at. empty_at unit.variables variable list at;
-}

@@ -1,5 +1,5 @@
 -- What the steps on action graphs come to: the graphs, the sizes, the lines, the demand.
-use Rattle.std.proofs.Common.{◌≡◌, ◌∙◌, ◌⊎◌, inl, inr, refl, sym, subst, ℕ, zero, suc, ◌+◌, ◌*◌, ◌^◌, ◌<◌, ◌≤◌, List, [], ◌∷◌, length, map, get_or, slice_get, Some, All, Any, arith, Result, Ok, Err}
+use Rattle.std.proofs.Common.{◌≡◌, ◌∙◌, ◌⊎◌, inl, inr, refl, sym, subst, ℕ, suc, ◌+◌, ◌*◌, ◌^◌, ◌<◌, ◌≤◌, List, [], ◌∷◌, length, map, get_or, slice_get, Some, All, Any, arith, Result, Ok, Err}
 use Rattle.std.specs.Prelude.{◌↔◌}
 use Rattle.std.specs.List.{range_with_len}
 use Rattle.std.specs.Result.{IsErrOf}
@@ -10,6 +10,8 @@ use Rattle.psy_base.specs.declared.edge.Edge.{Edge}
 use Rattle.psy_base.specs.declared.limits.TheConstants.{EDGES, PROCESSORS, WINDOW_CELLS}
 use Rattle.psy_base.specs.declared.sizes.Sizes.{Sizes}
 use Rattle.psy_base.specs.Paths.{FitsDueLast, IsGreatestWeight}
+use Rattle.psy_demand.proofs.lemmas.EdgesOf.{edges_at}
+use Rattle.psy_lists.proofs.lemmas.Places.{there}
 use Rattle.psy_tree.specs.Parts.{homes}
 use Rattle.psy_tree.specs.declared.unit.Unit.{Unit as Whole}
 use Rattle.psy_demand.specs.Criterion.{HasCells, PassesCells, edges_of}
@@ -48,7 +50,6 @@ use Rattle.psy_run.specs.Tables.{IsLine, AreLines}
 use Rattle.psy_run.proofs.Courses.{halts_apart, halts_first, halts_later}
 use Rattle.psy_run.proofs.Decisions.{all_or_any, most_or_more}
 use Rattle.psy_run.proofs.ProcessorDemands.{by_each, by_one, demand_on, feasible_none, feasible_or_overload, overload_further, overload_one}
-use Rattle.psy_run.proofs.RowLemmas.{there}
 
 -- ---- faults by ways
 
@@ -117,12 +118,6 @@ module _ (graphs : List Graph) (lines : List Rate) (are : AreLines graphs lines)
   all_intercepts_small k d less = (line_at k d less).1.intercept
 
 -- ---- demand
-
--- The edges by a number are those of a graph
-pub edges_at : (graphs : List Graph) (i : ℕ) (edges : List Edge) → slice_get (edges_of graphs) i ≡ Some edges → (graph : Graph) × (slice_get graphs i ≡ Some graph) × (graph.edges ≡ edges)
-edges_at [] i edges at = cc
-edges_at (graph ∷ graphs) zero edges at = (graph, refl, cc)
-edges_at (graph ∷ graphs) (suc i) edges at = edges_at graphs i edges at
 
 -- Where the criterion gives a verdict, no table passes its limit.
 pub has_cells : {A : Type 0} (top : ℕ) (graphs : List Graph) (result : Result A WindowFault) (x : A) → result ≡ Ok x → (IsErrOf result window.Cells ↔ Any (PassesCells top) graphs) → All (HasCells top) graphs

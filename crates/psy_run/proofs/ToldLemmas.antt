@@ -1,7 +1,7 @@
 -- The steps on what a run is told, and the steps behind them: where they stop, what they give, and what can be served then.
-use Rattle.std.proofs.Common.{◌≡◌, ◌∙◌, refl, sym, ap, subst, ℕ, ◌≤◌, List, Option, ℤ, arith}
+use Rattle.std.proofs.Common.{◌≡◌, ◌∙◌, refl, sym, ap, subst, ℕ, ◌≤◌, List, Option, ℤ}
 use Rattle.psy_base.specs.declared.sizes.Sizes.{Sizes}
-use Rattle.psy_door.specs.Faults.{Rose}
+use Rattle.psy_run.proofs.lemmas.Growth.{rose_before}
 use Rattle.psy_door.specs.Files.{Files}
 use Rattle.psy_history.specs.Compiled.{AreInputs}
 use Rattle.psy_history.specs.declared.told.Script.{Script as Said}
@@ -35,10 +35,6 @@ halts_by_text course file failed before after text.Lines first many = halts_refu
 halts_by_text course file failed before after text.Memory first many = halts_memory
 
 -- ---- the shelf
-
--- A count that rose from a later one on rose from an earlier one on
-rose_before : (before between after : ℕ) → before ≤ between → Rose between after → Rose before after
-rose_before before between after less rose = omega arith
 
 -- A stop that is counted from later on is one from earlier on
 halts_before : {X : Type 0} (course : Course X) (failed : List ℕ) (before between after : ℕ) (stop : Stop) → before ≤ between → Halts course failed between after stop → Halts course failed before after stop

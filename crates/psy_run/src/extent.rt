@@ -6,9 +6,9 @@ ghost use Rattle.psy_rate.specs.Horizons.{Covers, IsHorizon, IsHorizonOf};
 ghost use Rattle.psy_rate.specs.Lines.{lines_by, lines_on as all_on, no_line};
 ghost use Rattle.psy_run.specs.Extents.{IsExtent, IsNearer, length_of};
 
-use crate::lists::push;
 use crate::refusal::Stop;
 use psy_base::{Items, Memory, limits};
+use psy_lists::push;
 use psy_rate::laws::horizons;
 use psy_rate::{Rate, horizon};
 use std::alloc::Global;

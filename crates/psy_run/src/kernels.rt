@@ -8,7 +8,8 @@ ghost use Rattle.psy_run.specs.Services.{no_inputs, no_script};
 use crate::commands::boot;
 use crate::steps::translate;
 use crate::supply::supply;
-use crate::told::{no_lists, nothing_said};
+use crate::told::nothing_said;
+use psy_history::no_lists;
 use psy_kernel::Kernel;
 use std::alloc::Global;
 

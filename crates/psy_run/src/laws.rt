@@ -48,26 +48,11 @@ use psy_sizes::laws::{listed_sizes, one_size};
 use psy_token::laws::one_reading;
 use psy_window::laws::greatest;
 
-/// Words have one answer at most, where files are told.
+/// Words have one answer, where files are told, and no other.
 pub fn one_answer()
-    ensures { (words : List (List ℕ)) (files : Files) (status other : ℕ) (text another : List ℕ) → Answers words (Some files) status text
+    ensures same { (words : List (List ℕ)) (files : Files) (status other : ℕ) (text another : List ℕ) → Answers words (Some files) status text
         → Answers words (Some files) other another → (status ≡ other) × (text ≡ another) }
-{
-    one_reading();
-    one_tree();
-    one_verdict();
-    of_text();
-    short();
-    one_graph();
-    costs();
-    one_size();
-    rates();
-    horizons();
-}
-
-/// Words have some answer, where files are told.
-pub fn some_answer()
-    ensures { (words : List (List ℕ)) (files : Files) → (status : ℕ) × (text : List ℕ) × Answers words (Some files) status text }
+    ensures some { (words : List (List ℕ)) (files : Files) → (status : ℕ) × (text : List ℕ) × Answers words (Some files) status text }
 {
     one_reading();
     one_tree();

@@ -9,7 +9,6 @@ mod costs;
 mod extent;
 mod kernels;
 pub mod laws;
-mod lists;
 mod plan;
 mod rates;
 mod refusal;

@@ -5,10 +5,10 @@ ghost use Rattle.psy_demand.specs.Criterion.{IsDrawn};
 ghost use Rattle.psy_graph.specs.Graphs.{IsSmall};
 ghost use Rattle.psy_run.specs.Tables.{IsLine, AreLines};
 
-use crate::lists::push;
 use crate::refusal::Stop;
 use psy_base::{Items, Memory};
 use psy_graph::Graph;
+use psy_lists::push;
 use psy_rate::{Rate, certify};
 use std::alloc::Global;
 

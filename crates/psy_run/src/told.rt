@@ -9,26 +9,14 @@ ghost use Rattle.psy_run.specs.Refusals.{stop_by};
 ghost use Rattle.psy_run.specs.Services.{no_inputs, no_script};
 ghost use Rattle.psy_run.specs.Steps.{stating, directing, pacing};
 
-use crate::lists::push;
 use crate::refusal::{File, Refusal, Stop};
 use crate::steps::read;
 use psy_base::{Items, Memory, limits};
 use psy_door::Shelf;
-use psy_history::{Inputs, Script};
+use psy_history::{Inputs, Script, no_lists};
 use psy_script::{TextFault, read_inputs, read_script};
 use psy_tree::Unit;
 use std::alloc::Global;
-
-/// No input has a list.
-pub fn no_lists(alloc: Global, unit: &Unit) -> Result<Inputs, Memory>
-    ensures { IfOk result (λ inputs. inputs.lists ≡ no_inputs unit.now) }
-{
-    let mut lists = Items::new(alloc);
-    'variables: for _ in unit.variables.as_slice() {
-        push(&mut lists, Items::new(alloc))?;
-    }
-    Ok(Inputs { lists })
-}
 
 /// No stalls, no orders and no rounds.
 pub fn nothing_said(alloc: Global) -> Script

@@ -1,5 +1,5 @@
 -- Names that differ, and a table of them.
-use Rattle.std.proofs.Common.{◌≡◌, ℕ, zero, suc, ◌+◌, ◌<◌, true, false, List, [], ◌∷◌, ◌++◌, map, length, get_or, take, Some, option_map, slice_get, bytes_eq, sym, ap, refl, ◌∙◌, zero-add, suc-add, get_or-take, length-take, arith}
+use Rattle.std.proofs.Common.{◌≡◌, ℕ, ◌+◌, ◌<◌, true, false, List, [], ◌∷◌, ◌++◌, map, length, get_or, take, Some, option_map, slice_get, bytes_eq, sym, ap, refl, ◌∙◌, get_or-take, length-take, arith}
 use Rattle.std.specs.List.{list_any}
 use Rattle.std.proofs.lemmas.Bool.{or_parts, cond-false, false_from_ne_true}
 use Rattle.std.proofs.lemmas.List.{map-append, take-map}
@@ -7,21 +7,12 @@ use Rattle.std.proofs.lemmas.List.Folds.{list_any_none}
 use Rattle.std.proofs.lemmas.Option.{slice_get-get_or, slice_get-map}
 use Rattle.std.proofs.lemmas.Slice.Eq.{bytes_eq-Decides}
 use Rattle.indexmap.specs.IndexMap.{insert_entry}
+use Rattle.psy_tree.proofs.lemmas.Lists.{slice_get-behind}
+use Rattle.psy_lists.proofs.lemmas.Places.{in_front}
 use Rattle.psy_tree.specs.declared.unit.Unit.{Unit as Whole}
 use Rattle.psy_meaning.specs.Units.{AllDiffer, IsBare}
 
 -- ---- parts of a list whose names differ
-
--- What stands behind a front
-slice_get-behind : {X : Type 0} (xs ys : List X) (i : ℕ) → slice_get (xs ++ ys) (length xs + i) ≡ slice_get ys i
-slice_get-behind [] ys i = ap (slice_get ys) (zero-add i)
-slice_get-behind (x ∷ xs) ys i = ap (slice_get (x ∷ (xs ++ ys))) (suc-add (length xs) i) ∙ slice_get-behind xs ys i
-
--- What stands in the front
-slice_get-front : {X : Type 0} (xs ys : List X) (i : ℕ) (x : X) → slice_get xs i ≡ Some x → slice_get (xs ++ ys) i ≡ Some x
-slice_get-front [] ys i x e = cc
-slice_get-front (y ∷ xs) ys zero x e = e
-slice_get-front (y ∷ xs) ys (suc i) x e = slice_get-front xs ys i x e
 
 -- They differ behind a front.
 differ_behind : (xs ys : List (List ℕ)) → AllDiffer (xs ++ ys) → AllDiffer ys
@@ -31,7 +22,7 @@ differ_behind xs ys all i j name at_i at_j =
 
 -- They differ in the front.
 differ_front : (xs ys : List (List ℕ)) → AllDiffer (xs ++ ys) → AllDiffer xs
-differ_front xs ys all i j name at_i at_j = all i j name (slice_get-front xs ys i name at_i) (slice_get-front xs ys j name at_j)
+differ_front xs ys all i j name at_i at_j = all i j name (in_front xs ys i name at_i) (in_front xs ys j name at_j)
 
 -- The names of a program's variables differ.
 pub variables_differ : (unit : Whole) → IsBare unit → AllDiffer (map (λ v. v.name) unit.variables)

@@ -2,6 +2,7 @@
 use Rattle.std.proofs.Common.{◌≡◌, ◌∙◌, refl, ap, Bool, true, false, cond, ◌||◌, List, [], ◌∷◌, ◌++◌}
 use Rattle.std.specs.List.{All, list_any}
 use Rattle.std.proofs.lemmas.List.Elements.{All-cons, All-nil, All-head, All-tail}
+use Rattle.psy_lists.proofs.lemmas.Tests.{or_false}
 use Rattle.psy_script.specs.Rising.{put, put_all, rising}
 
 -- Items are put one after the other.
@@ -25,11 +26,6 @@ or_assoc : (a b c : Bool) → (a || (b || c)) ≡ ((a || b) || c)
 or_assoc true b c = refl
 or_assoc false b c = refl
 
--- And a test beside none
-pub or_none : (a : Bool) → (a || false) ≡ a
-or_none true = refl
-or_none false = refl
-
 -- Among items, one is found at the head or behind it.
 any_put_at : {X : Type 0} (test : X → Bool) (b : Bool) (x y : X) (ys placed : List X) → list_any test placed ≡ (test x || list_any test ys) → list_any test (cond b (x ∷ y ∷ ys) (y ∷ placed)) ≡ (test x || list_any test (y ∷ ys))
 any_put_at test true x y ys placed e = refl
@@ -48,7 +44,7 @@ any_put_all test before (x ∷ xs) placed =
 
 -- One of the items is found among them in their order.
 pub any_rising : {X : Type 0} (test : X → Bool) (before : X → X → Bool) (xs : List X) → list_any test (rising before xs) ≡ list_any test xs
-any_rising test before xs = any_put_all test before xs [] ∙ or_none (list_any test xs)
+any_rising test before xs = any_put_all test before xs [] ∙ or_false (list_any test xs)
 
 -- What holds of an item and of others holds where it is put before or behind one of them.
 All_put_at : {X : Type 0} (P : X → Type 0) (b : Bool) (x y : X) (ys placed : List X) → P x → All P (y ∷ ys) → All P placed → All P (cond b (x ∷ y ∷ ys) (y ∷ placed))

@@ -10,6 +10,8 @@ use Rattle.std.proofs.lemmas.List.{length-map}
 use Rattle.std.proofs.lemmas.List.Folds.{list_any-append}
 use Rattle.std.proofs.lemmas.List.Quantifiers.{position-Some}
 use Rattle.std.proofs.lemmas.Slice.Eq.{bytes_eq-Decides}
+use Rattle.psy_lists.proofs.lemmas.Searches.{list_any-map}
+use Rattle.psy_lists.proofs.lemmas.Tests.{or_false}
 use Rattle.psy_tree.specs.declared.unit.AgentDecl.{AgentDecl}
 use Rattle.psy_tree.specs.declared.unit.Unit.{Unit as Whole}
 use Rattle.psy_history.specs.declared.told.Order.{Order}
@@ -21,7 +23,7 @@ use Rattle.psy_script.specs.Entries.{clashes, entry_in, is_beside, place_in, wit
 use Rattle.psy_script.specs.Numbers.{all_some}
 use Rattle.psy_script.specs.Rising.{put_all, rising}
 use Rattle.psy_script.specs.Script.{Statement, Stalls, Orders, Rounds, agent_number, has_same, has_twice, is_agent, is_order_at, is_round_at, is_stall_at, names_agents, order_before, order_said, round_before, round_said, stall_before, stall_said, stands_again}
-use Rattle.psy_script.proofs.Placing.{any_rising, or_none, rising-append}
+use Rattle.psy_script.proofs.Placing.{any_rising, rising-append}
 
 -- ---- names and numbers
 
@@ -44,11 +46,6 @@ place_below : {X : Type 0} (test : X → Bool) (xs : List X) → ltb (position_o
 place_below test [] = refl
 place_below test (x ∷ xs) = place_step (test x) (position_or_len test xs) (length xs) (list_any test xs) (place_below test xs)
 
--- A test of what items are made into
-any_map : {X Y : Type 0} (test : Y → Bool) (f : X → Y) (xs : List X) → list_any test (map f xs) ≡ list_any (λ x. test (f x)) xs
-any_map test f [] = refl
-any_map test f (x ∷ xs) = ap (λ b. test (f x) || b) (any_map test f xs)
-
 -- Tests that agree find the same.
 pub any_same : {X : Type 0} (p q : X → Bool) → ((x : X) → p x ≡ q x) → (xs : List X) → list_any p xs ≡ list_any q xs
 any_same p q same [] = refl
@@ -61,12 +58,12 @@ any_flat test f (x ∷ xs) = list_any-append test (f x) (flat_map f xs) ∙ ap (
 
 -- A name has a place where it is an agent's.
 pub place_is : (unit : Whole) (name : List ℕ) → place_in (agent_names unit) name ≡ cond (is_agent unit name) (Some (agent_number unit name)) None
-place_is unit name = ap (λ b. cond b (Some (agent_number unit name)) None) (place_below (bytes_eq name) (agent_names unit) ∙ any_map (bytes_eq name) (λ (a : AgentDecl). a.name) unit.agents)
+place_is unit name = ap (λ b. cond b (Some (agent_number unit name)) None) (place_below (bytes_eq name) (agent_names unit) ∙ list_any-map (bytes_eq name) (λ (a : AgentDecl). a.name) unit.agents)
 
 -- The number of an agent is one of theirs.
 pub number_below : (unit : Whole) (name : List ℕ) → is_agent unit name ≡ true → agent_number unit name < length unit.agents
 number_below unit name is = subst (λ n. agent_number unit name < n) (length-map unit.agents (λ (a : AgentDecl). a.name))
-    (ltb-true (agent_number unit name) (length (agent_names unit)) (place_below (bytes_eq name) (agent_names unit) ∙ any_map (bytes_eq name) (λ (a : AgentDecl). a.name) unit.agents ∙ is))
+    (ltb-true (agent_number unit name) (length (agent_names unit)) (place_below (bytes_eq name) (agent_names unit) ∙ list_any-map (bytes_eq name) (λ (a : AgentDecl). a.name) unit.agents ∙ is))
 
 -- The name stands at the place that is found.
 stands_there : (names : List (List ℕ)) (name : List ℕ) (place : ℕ) → position_or_len (bytes_eq name) names ≡ place → place < length names → name ≡ get_or names place []
@@ -152,28 +149,28 @@ said_more unit said (Rounds cycle processors) = with_said unit said (Rounds cycl
 -- By number and by name the same stalls stand before an instruction,
 stall_at_number : (unit : Whole) (agent : List ℕ) (action instr cycles : ℕ) → is_agent unit agent ≡ true → (st : Statement)
     → list_any (is_beside (record { agent = agent_number unit agent; action = action; instr = instr; cycles = cycles })) (stall_said unit st) ≡ is_stall_at agent action instr st
-stall_at_number unit agent action instr cycles is (Stalls a n i c) = or_none (eqb (agent_number unit agent) (agent_number unit a) && (eqb action n && eqb instr i)) ∙ ap (λ b. b && (eqb action n && eqb instr i)) (same_number unit agent a is)
+stall_at_number unit agent action instr cycles is (Stalls a n i c) = or_false (eqb (agent_number unit agent) (agent_number unit a) && (eqb action n && eqb instr i)) ∙ ap (λ b. b && (eqb action n && eqb instr i)) (same_number unit agent a is)
 stall_at_number unit agent action instr cycles is (Orders c agents) = refl
 stall_at_number unit agent action instr cycles is (Rounds c processors) = refl
 
 -- And the same orders begin at a cycle,
 order_at_cycle : (unit : Whole) (cycle : ℕ) (st : Statement) → list_any (λ (o : Order). eqb cycle o.cycle) (order_said unit st) ≡ is_order_at cycle st
 order_at_cycle unit cycle (Stalls a n i c) = refl
-order_at_cycle unit cycle (Orders c agents) = or_none (eqb cycle c)
+order_at_cycle unit cycle (Orders c agents) = or_false (eqb cycle c)
 order_at_cycle unit cycle (Rounds c processors) = refl
 
 -- And the same rounds.
 round_at_cycle : (cycle : ℕ) (st : Statement) → list_any (λ (r : Round). eqb cycle r.cycle) (round_said st) ≡ is_round_at cycle st
 round_at_cycle cycle (Stalls a n i c) = refl
 round_at_cycle cycle (Orders c agents) = refl
-round_at_cycle cycle (Rounds c processors) = or_none (eqb cycle c)
+round_at_cycle cycle (Rounds c processors) = or_false (eqb cycle c)
 
 -- A number repeats where a name stands twice; the names are agents'.
 pub repeats_are : (unit : Whole) (names : List (List ℕ)) → list_all (is_agent unit) names ≡ true → has_same (map (agent_number unit) names) ≡ has_twice names
 repeats_are unit [] are = refl
 repeats_are unit (name ∷ names) are =
     ap₂ (λ a b. a || b)
-    (any_map (λ m. eqb (agent_number unit name) m) (agent_number unit) names ∙ any_same (λ other. eqb (agent_number unit name) (agent_number unit other)) (bytes_eq name) (λ other. same_number unit name other (and_parts (is_agent unit name) (list_all (is_agent unit) names) are).0) names)
+    (list_any-map (λ m. eqb (agent_number unit name) m) (agent_number unit) names ∙ any_same (λ other. eqb (agent_number unit name) (agent_number unit other)) (bytes_eq name) (λ other. same_number unit name other (and_parts (is_agent unit name) (list_all (is_agent unit) names) are).0) names)
     (repeats_are unit names (and_parts (is_agent unit name) (list_all (is_agent unit) names) are).1)
 
 -- One stands among what was said, put in its order, where a statement says it.

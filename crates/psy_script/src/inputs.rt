@@ -15,7 +15,7 @@ use crate::fault::{LineKind, TextFault};
 use crate::lines::has_many_lines;
 use crate::names::Names;
 use psy_base::{Items, Memory};
-use psy_history::Inputs;
+use psy_history::{Inputs, no_lists};
 use psy_text::line::{cut_line, is_skipped};
 use psy_text::word::{cut_word, value};
 use psy_tree::Unit;
@@ -57,7 +57,7 @@ fn stated_lists(alloc: Global, text: &[u8], unit: &Unit) -> Result<Inputs, TextF
         return Err(TextFault::Lines);
     }
     let names = Names::of_variables(alloc, unit)?;
-    let mut lists = no_lists(alloc, unit)?;
+    let mut lists = no_lists(alloc, unit)?.lists;
     let mut rest = text;
     let mut line = 0;
     while let Some(cut) = cut_line(rest) {
@@ -68,17 +68,6 @@ fn stated_lists(alloc: Global, text: &[u8], unit: &Unit) -> Result<Inputs, TextF
         }
     }
     Ok(Inputs { lists })
-}
-
-// An empty list for each variable.
-fn no_lists(alloc: Global, unit: &Unit) -> Result<Items<Items<i32>>, Memory>
-    ensures { IfOk result (λ lists. lists ≡ map (λ v. []) unit.now.variables) }
-{
-    let mut lists = Items::new(alloc);
-    for _variable in unit.variables.as_slice() {
-        lists.push(Items::new(alloc))?;
-    }
-    Ok(lists)
 }
 
 // Adds what a line says to the lists of the lines before it; gives what is wrong with the line, if anything is.

@@ -1,23 +1,14 @@
 -- What a sink holds behind a text, and behind what was added to it.
-use Rattle.std.proofs.Common.{◌≡◌, ◌≢◌, ℕ, true, false, List, [], ◌++◌, Option, None, Some, inl, inr, sym, ap, subst, ◌∙◌, append_assoc, ◌≤◌, arith}
+use Rattle.std.proofs.Common.{◌≡◌, ◌≢◌, ℕ, true, false, List, [], ◌++◌, Option, None, Some, inl, inr, sym, ap, subst, ◌∙◌}
 use Rattle.std.specs.Prelude.{MatchBool, MatchOption, ⊤}
 use Rattle.std.proofs.lemmas.Bool.{true≢false}
 use Rattle.std.proofs.lemmas.Option.{none-some, same_Some}
-use Rattle.psy_door.specs.Faults.{Rose}
 use Rattle.psy_door.specs.Files.{Files}
 use Rattle.psy_door.specs.Growth.{Grew}
 use Rattle.psy_last.specs.Lasts.{last_line, short}
 use Rattle.psy_last.specs.Remembering.{IsFresh}
 use Rattle.psy_serve.specs.Behind.{IsBehind, IsExplained, IsToldBeside}
 use Rattle.psy_serve.specs.Speaking.{is_refusal}
-
--- One text was added, and another behind it.
-pub grew_on : (old mid now : Option (List ℕ)) (text more : List ℕ) → Grew old mid text → Grew mid now more → Grew old now (text ++ more)
-grew_on old mid None text more first second = tt
-grew_on None None (Some n) text more first second = absurd second
-grew_on (Some o) None (Some n) text more first second = absurd second
-grew_on None (Some m) (Some n) text more first second = absurd first
-grew_on (Some o) (Some m) (Some n) text more first second = second ∙ ap (λ b. b ++ more) first ∙ append_assoc o text more
 
 -- Behind the text of a refusal its last line is explained over the files that are told then, where nothing stood before the text.
 pub explained_behind : (words : List (List ℕ)) (files seen : Option Files) (status : ℕ) (text more piece : List ℕ) (old mid now : Option (List ℕ))
@@ -54,10 +45,6 @@ behind_of P text piece (Some o) (Some m) (Some n) fresh first second is =
 -- A status with which nothing was refused isn't that of a refusal.
 pub no_refusal : (status other : ℕ) → is_refusal status ≡ true → is_refusal other ≡ false → status ≢ other
 no_refusal status other refusal none same = true≢false (sym refusal ∙ ap is_refusal same ∙ none)
-
--- A count that rose from a later one on rose from an earlier one on.
-pub rose_before : (before between after : ℕ) → before ≤ between → Rose between after → Rose before after
-rose_before before between after less rose = omega arith
 
 -- What is true of each line that a sink may remember is true of the last one that it holds.
 pub last_of : (P : List ℕ → Type 0) (held last : Option (List ℕ)) → MatchOption held ⊤ (λ bytes. last ≡ short (last_line bytes))

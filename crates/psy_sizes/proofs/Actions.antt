@@ -1,16 +1,17 @@
 -- The nodes of an agent's graph stand for its actions.
-use Rattle.std.proofs.Common.{◌≡◌, ℕ, zero, suc, ◌+◌, ◌-◌, ◌%◌, ◌<◌, ◌≤◌, ◌↔◌, List, [], ◌∷◌, map, length, get_or, refl, sym, ap, subst, ◌∙◌, arith}
+use Rattle.std.proofs.Common.{◌≡◌, ℕ, ◌+◌, ◌-◌, ◌%◌, ◌<◌, ◌≤◌, ◌↔◌, List, length, get_or, refl, sym, ap, subst, ◌∙◌, arith}
 use Rattle.std.specs.List.{All, Contains}
 use Rattle.std.proofs.Math.Nat.{mod-lt}
 use Rattle.std.proofs.lemmas.Nat.Gcd.{dvd_antisymm}
-use Rattle.std.proofs.lemmas.List.{length-map, get_or-map}
 use Rattle.std.proofs.lemmas.List.Elements.{Contains-get_or}
+use Rattle.psy_graph.proofs.lemmas.MayStarts.{may_point}
+use Rattle.psy_lists.proofs.lemmas.Members.{contains_map, map_contains}
 use Rattle.psy_clock.specs.declared.clock.Clock.{Clock}
 use Rattle.psy_tree.specs.declared.unit.Unit.{Unit as Whole}
 use Rattle.psy_meaning.specs.Graph.{IsCycle, spot_at}
 use Rattle.psy_meaning.specs.KnownWays.{Looks, Ways}
 use Rattle.psy_meaning.specs.RingSizes.{IsDueIn, agent_timing, dates_between}
-use Rattle.psy_meaning.specs.Timing.{Timing, MayStart, deadline, first, later}
+use Rattle.psy_meaning.specs.Timing.{Timing, MayStart, deadline}
 use Rattle.psy_graph.specs.declared.graph.Graph.{Graph}
 use Rattle.psy_graph.specs.declared.graph.Node.{Node}
 use Rattle.psy_graph.specs.Graphs.{IsGraphOf, IsTimed, spot_of}
@@ -18,23 +19,7 @@ use Rattle.psy_sizes.specs.Passing.{HasDatesAt, HasDatesOf}
 
 -- ---- lists
 
-pub contains_map : {X Y : Type 0} (f : X → Y) (xs : List X) (x : X) → Contains xs x → Contains (map f xs) (f x)
-contains_map f xs x (k, l, e) = (k, omega (arith, l, length-map xs f), get_or-map f xs k x (f x) l ∙ ap f e)
-
--- An item of a mapped list is that of some item.
-pub map_contains : {X Y : Type 0} (f : X → Y) (xs : List X) (y : Y) → Contains (map f xs) y → (x : X) × Contains xs x × (f x ≡ y)
-map_contains f [] y (k, l, e) = absurd (omega (arith, l))
-map_contains f (x ∷ xs) y (zero, l, e) = (x, (0, omega arith, refl), e)
-map_contains f (x ∷ xs) y (suc k, l, e) =
-    let (z, (i, less, is), same) = map_contains f xs y (k, omega (arith, l), e) in
-    (z, (suc i, omega (arith, less), is), same)
-
 -- ---- nodes
-
--- Actions start at points that there are.
-pub may_point : (timing : Timing) → IsTimed timing → (point start : ℕ) → MayStart timing point start → point < length timing.points
-may_point timing timed point start first = omega (arith, timed.head)
-may_point timing timed point start (later from begun to may follows) = (timed.within from point follows).1
 
 module _ (timing : Timing) (graph : Graph) (drawn : IsGraphOf timing graph) where
   abbrev pub cycle : ℕ

@@ -7,6 +7,7 @@ use Rattle.std.proofs.lemmas.List.{ext_get_or}
 use Rattle.std.proofs.lemmas.List.Elements.{All-nil, All-push, All-get_or}
 use Rattle.std.proofs.lemmas.Option.{slice_get_within, slice_get-get_or, get_or_from_slice_get}
 use Rattle.psy_base.specs.declared.limits.TheConstants.{RING}
+use Rattle.psy_lists.proofs.lemmas.Places.{each_more}
 use Rattle.psy_clock.specs.Dates.{IsClock}
 use Rattle.psy_tree.specs.declared.unit.Unit.{Unit as Whole}
 use Rattle.psy_tree.specs.declared.unit.VarDecl.{VarDecl}
@@ -14,7 +15,7 @@ use Rattle.psy_meaning.specs.KnownWays.{Ways}
 use Rattle.psy_meaning.specs.RingSizes.{AreRings, IsLargeRing, IsRingSize}
 use Rattle.psy_meaning.specs.Units.{IsBareVariable}
 use Rattle.psy_sizes.proofs.Existence.{most_before}
-use Rattle.psy_sizes.proofs.RingsOf.{ring_size, one_size, each_more}
+use Rattle.psy_sizes.proofs.RingsOf.{ring_size, one_size}
 use Rattle.psy_sizes.proofs.Sharing.{no_clock}
 use Rattle.psy_sizes.proofs.Told.{AreTold}
 use Rattle.psy_tree.specs.Parts.{no_variable}

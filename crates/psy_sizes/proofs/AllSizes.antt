@@ -6,6 +6,7 @@ use Rattle.std.proofs.lemmas.List.Elements.{Contains-get_or}
 use Rattle.std.proofs.lemmas.Option.{slice_get-get_or}
 use Rattle.psy_base.specs.declared.limits.TheConstants.{QUEUE, RING}
 use Rattle.psy_base.specs.declared.sizes.Sizes.{Sizes}
+use Rattle.psy_lists.proofs.lemmas.Places.{listed}
 use Rattle.psy_tree.specs.declared.unit.Unit.{Unit as Whole}
 use Rattle.psy_meaning.specs.BufferSizes.{AreSizes}
 use Rattle.psy_tree.specs.Parts.{agent_at}
@@ -17,7 +18,6 @@ use Rattle.psy_sizes.specs.declared.fault.SizeFault.{SizeFault}
 use Rattle.psy_sizes.specs.declared.fault.SizeFault.TheVariants.{LargeRing, Cells, LargeQueue, Memory}
 use Rattle.psy_sizes.specs.Faults.{CanCount, HaveRings, IsFaultBy}
 use Rattle.psy_sizes.proofs.AllRings.{same_sizes, same_large, rings_apart}
-use Rattle.psy_sizes.proofs.Listed.{listed}
 use Rattle.psy_sizes.proofs.QueuesOf.{IsAtFault, one_first, queue_first, queues_or_fault, same_queues, same_size, table_first}
 use Rattle.psy_sizes.proofs.SomeOutboxes.{outbox_some}
 use Rattle.psy_sizes.proofs.Told.{AreTold}

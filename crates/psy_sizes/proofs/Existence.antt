@@ -46,7 +46,7 @@ cycle_some timing timed cycle is =
 
 greatest_dates : AreCounted → (clock : Clock) → IsClock clock → (cycle phase due : ℕ) → phase < cycle → (n : ℕ) × IsGreatest (HasDates clock cycle phase due) n
 greatest_dates counted clock lawful cycle phase due inner =
-    let (shared, is) = gcd_exists cycle clock.period (omega (arith, inner)) (omega (arith, lawful.first)) in
+    let (shared, is) = gcd_exists cycle clock.period in
     let near = gap shared (phase + (clock.period - clock.first)) in
     elim (cases_lt near due) [
       | inl l ↦ ((due - 1 - near) / clock.period + 1, most_dates clock lawful (λ t i. counted clock t i lawful) cycle phase shared is inner due l)

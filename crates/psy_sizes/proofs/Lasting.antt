@@ -8,6 +8,7 @@ use Rattle.std.proofs.lemmas.Nat.{mul-le}
 use Rattle.std.proofs.lemmas.Option.{slice_get_read}
 use Rattle.psy_base.specs.declared.edge.Edge.{Edge}
 use Rattle.psy_base.specs.declared.limits.TheConstants.{ADVANCE}
+use Rattle.psy_lists.proofs.lemmas.Members.{map_contains}
 use Rattle.psy_clock.specs.declared.clock.TheConstants.{PERIOD}
 use Rattle.psy_clock.specs.declared.clock.Clock.{Clock}
 use Rattle.psy_clock.specs.Dates.{IsClock, after_date}
@@ -23,7 +24,6 @@ use Rattle.psy_graph.specs.declared.graph.Graph.{Graph}
 use Rattle.psy_graph.specs.Graphs.{IsGraphOf, IsTimed, spot_of}
 use Rattle.psy_sizes.specs.Queues.{HasLength}
 use Rattle.psy_sizes.proofs.Sharing.{no_clock}
-use Rattle.psy_sizes.proofs.Actions.{map_contains}
 
 -- ---- the greatest length of one edge more
 

@@ -1,8 +1,10 @@
--- Greatest common divisors and least common multiples of two numbers, and how the two change places.
+-- What a number shares with a least common multiple: how greatest common divisors and least common multiples change places.
 use Rattle.std.proofs.Common.{◌≡◌, ℕ, zero, suc, ◌+◌, ◌-◌, ◌*◌, ◌/◌, ◌%◌, ◌<◌, ◌≤◌, sym, ap, subst, ◌∙◌, inl, inr, arith}
 use Rattle.std.specs.Int.{IsGcd, ◌∣◌}
 use Rattle.std.proofs.Math.Nat.{mul_comm, mod-lt, eq-zero-or-pos, div-add-mod', div-mul_cancel, dvd-mul_left, dvd-mul_right, dvd-mul_left_of_dvd, dvd-mul_right_of_dvd, dvd-add_iff_right, dvd_of_mul-dvd-mul_right, mul-dvd-mul_left, mul-dvd-mul_right, pos_of_dvd_of_pos, one-dvd, mul-pos}
 use Rattle.std.proofs.lemmas.Nat.Gcd.{IsGcd-from_zero, IsGcd-from_mod, same_from_IsGcd, dvd_trans, dvd_of_mod-eq-zero}
+use Rattle.psy_graph.specs.Steps.{divisor}
+use Rattle.psy_graph.proofs.lemmas.Cycles.{IsJoined, divisor_is, gcd_scaled, joined_by, joined_is as joined_whole}
 
 quotient_some : (a g : ℕ) → 1 ≤ a → g ∣ a → 1 ≤ a / g
 quotient_some a g la h = elim (eq-zero-or-pos (a / g)) [
@@ -50,54 +52,18 @@ euclid (suc n) a b h la lb =
           )
     ]
 
-pub gcd_exists : (a b : ℕ) → 1 ≤ a → 1 ≤ b → (g : ℕ) × IsGcd a b g
-gcd_exists a b la lb = let (g, is, reach) = euclid b a b (omega arith) la lb in (g, is)
-
 pub reaches : (a b g : ℕ) → 1 ≤ a → 1 ≤ b → IsGcd a b g → Reaches a b g
 reaches a b g la lb h = let (k, is, reach) = euclid b a b (omega arith) la lb in subst (Reaches a b) (same_from_IsGcd a b k g is h) reach
+
+pub gcd_exists : (a b : ℕ) → (g : ℕ) × IsGcd a b g
+gcd_exists a b = (divisor b a b, divisor_is b a b (omega arith))
 
 pub gcd_some : (a b g : ℕ) → 1 ≤ a → IsGcd a b g → 1 ≤ g
 gcd_some a b g la h = pos_of_dvd_of_pos h.0 la
 
-pub gcd_scaled : (m a b g : ℕ) → 1 ≤ a → 1 ≤ b → IsGcd a b g → IsGcd (m * a) (m * b) (m * g)
-gcd_scaled m a b g la lb h = (
-  mul-dvd-mul_left g m h.0,
-  mul-dvd-mul_left g m h.1,
-  λ d da db. (
-      let (u, v, e) = reaches a b g la lb h in
-      let many : m * (u * a) ≡ m * (v * b + g) = ap (λ x. m * x) e in
-      let sum : u * (m * a) ≡ v * (m * b) + m * g = omega arith in
-      (dvd-add_iff_right d (dvd-mul_left_of_dvd d db v)).1 (subst (λ x. d ∣ x) sum (dvd-mul_left_of_dvd d da u))
-      ),
-)
-
 -- The least common multiple of two numbers
-pub record IsJoined (a b n : ℕ) : Type 0 where
-  pub left : a ∣ n
-  pub right : b ∣ n
-  pub least : (m : ℕ) → a ∣ m → b ∣ m → n ∣ m
-  pub some : 1 ≤ n
-
 pub joined_is : (a b g : ℕ) → 1 ≤ a → 1 ≤ b → IsGcd a b g → IsJoined a b (a / g * b)
-joined_is a b g la lb h =
-    let q = a / g in let r = b / g in
-    let qa : q * g ≡ a = div-mul_cancel g h.0 in
-    let rb : r * g ≡ b = div-mul_cancel g h.1 in
-    let crossed : a * r ≡ q * b = (let one : q * g * r ≡ a * r = ap (λ x. x * r) qa in let two : q * (r * g) ≡ q * b = ap (λ x. q * x) rb in omega arith) in
-    let whole : a * b ≡ q * b * g = (let one : q * g * b ≡ a * b = ap (λ x. x * b) qa in omega arith) in
-    let least : (m : ℕ) → a ∣ m → b ∣ m → q * b ∣ m = λ m l k. (
-    let scaled : IsGcd (m * a) (m * b) (m * g) = gcd_scaled m a b g la lb h in
-    let one : a * b ∣ m * a = subst (λ x. a * b ∣ x) (mul_comm a m) (mul-dvd-mul_left b a k) in
-    let two : a * b ∣ m * b = mul-dvd-mul_right a l b in
-    let both : a * b ∣ m * g = scaled.2 (a * b) one two in
-    dvd_of_mul-dvd-mul_right (q * b) (gcd_some a b g la h) (subst (λ x. x ∣ m * g) whole both)
-    ) in
-    record {
-      left = subst (λ x. a ∣ x) crossed (dvd-mul_right a r);
-      right = dvd-mul_left b q;
-      least = least;
-      some = mul-pos (quotient_some a g la h.0) lb;
-    }
+joined_is a b g la lb h = subst (IsJoined a b) (sym (joined_by a b g h)) (joined_whole a b la lb)
 
 -- What is left of a number and of another one, past a common factor that holds all that the two share, shares nothing.
 apart : (a c g m p x : ℕ) → 1 ≤ g → IsGcd a p g → x * g ≡ a → c * m ≡ p → g ∣ m → IsGcd x c 1
@@ -114,12 +80,12 @@ apart a c g m p x some h xa cp gm = (
 )
 
 -- What shares nothing with two numbers shares nothing with their product.
-both_apart : (x y c : ℕ) → 1 ≤ x → 1 ≤ c → IsGcd x c 1 → IsGcd y c 1 → IsGcd (x * y) c 1
-both_apart x y c lx lc hx hy = (
+both_apart : (x y c : ℕ) → 1 ≤ y → IsGcd x c 1 → IsGcd y c 1 → IsGcd (x * y) c 1
+both_apart x y c ly hx hy = (
   one-dvd (x * y),
   one-dvd c,
   λ d dxy dc. (
-      let scaled : IsGcd (y * x) (y * c) (y * 1) = gcd_scaled y x c 1 lx lc hx in
+      let scaled : IsGcd (y * x) (y * c) (y * 1) = gcd_scaled y x c 1 ly hx in
       let in_y : d ∣ y * 1 = scaled.2 d (subst (λ z. d ∣ z) (mul_comm x y) dxy) (dvd-mul_left_of_dvd d dc y) in
       hy.2 d (subst (λ z. d ∣ z) (omega arith) in_y) dc
       ),
@@ -133,10 +99,8 @@ shared_joined a b p g k j m la lb lp ga gb join small =
     let xa : x * g ≡ a = div-mul_cancel g ga.0 in
     let yb : y * k ≡ b = div-mul_cancel k gb.0 in
     let cp : c * m ≡ p = div-mul_cancel m in_p in
-    let lx : 1 ≤ x = quotient_some a g la ga.0 in
     let ly : 1 ≤ y = quotient_some b k lb gb.0 in
-    let lc : 1 ≤ c = quotient_some p m lp in_p in
-    let none : IsGcd (x * y) c 1 = both_apart x y c lx lc (apart a c g m p x (gcd_some a p g la ga) ga xa cp small.left) (apart b c k m p y (gcd_some b p k lb gb) gb yb cp small.right) in
+    let none : IsGcd (x * y) c 1 = both_apart x y c ly (apart a c g m p x (gcd_some a p g la ga) ga xa cp small.left) (apart b c k m p y (gcd_some b p k lb gb) gb yb cp small.right) in
     let has_a : a ∣ m * (x * y) = (
     let one : x * g ∣ x * m = mul-dvd-mul_left g x small.left in
     let two : x * g ∣ x * m * y = dvd-mul_right_of_dvd (x * g) one y in
@@ -151,7 +115,7 @@ shared_joined a b p g k j m la lb lp ga gb join small =
       small.least j (dvd_trans g ga.0 join.left) (dvd_trans k gb.0 join.right),
       in_p,
       λ d dj dp. (
-          let scaled : IsGcd (m * (x * y)) (m * c) (m * 1) = gcd_scaled m (x * y) c 1 (mul-pos lx ly) lc none in
+          let scaled : IsGcd (m * (x * y)) (m * c) (m * 1) = gcd_scaled m (x * y) c 1 small.some none in
           let in_c : d ∣ m * c = subst (λ z. d ∣ z) (sym cp ∙ mul_comm c m) dp in
           subst (λ z. d ∣ z) (omega arith) (scaled.2 d (dvd_trans d dj has_j) in_c)
           ),

@@ -10,6 +10,7 @@ use Rattle.psy_base.specs.declared.edge.Edge.{Edge}
 use Rattle.psy_base.specs.declared.ways.SendWay.{SendWay}
 use Rattle.psy_base.specs.declared.ways.Ways.{Ways as WayLists}
 use Rattle.psy_base.specs.Paths.{IsPathFrom, IsGreatestWeight, FitsFirstFree, weight_of}
+use Rattle.psy_lists.proofs.lemmas.Members.{map_contains}
 use Rattle.psy_tree.specs.declared.unit.Unit.{Unit as Whole}
 use Rattle.psy_meaning.specs.Graph.{Spot}
 use Rattle.psy_meaning.specs.KnownWays.{HasMost, Listed, Ways, is_sent, most_in, sends_to}
@@ -17,7 +18,6 @@ use Rattle.psy_meaning.specs.QueueSizes.{AreSendEdges, IsSendEdge, IsSpread}
 use Rattle.psy_meaning.specs.RingSizes.{agent_timing}
 use Rattle.psy_graph.specs.declared.graph.Graph.{Graph}
 use Rattle.psy_graph.specs.Graphs.{IsGraphOf, spot_of}
-use Rattle.psy_sizes.proofs.Actions.{map_contains}
 
 -- ---- lists without a send to the stream
 

@@ -5,11 +5,11 @@ use Rattle.std.proofs.lemmas.Bool.{cases_lt}
 use Rattle.std.proofs.lemmas.List.{ext_get_or}
 use Rattle.std.proofs.lemmas.Option.{slice_get-get_or}
 use Rattle.psy_base.specs.declared.limits.TheConstants.{QUEUE}
+use Rattle.psy_lists.proofs.lemmas.Places.{listed}
 use Rattle.psy_tree.specs.declared.unit.Unit.{Unit as Whole}
 use Rattle.psy_meaning.specs.KnownWays.{Ways, is_sent}
 use Rattle.psy_meaning.specs.QueueSizes.{AreQueues, IsLargeQueue, IsLargeTable, IsQueueSize, IsSizeFor, IsSpreadBelow, IsWindow, KeepsQueue, PassesTable}
 use Rattle.psy_tree.specs.Parts.{stream_at}
-use Rattle.psy_sizes.proofs.Listed.{listed}
 use Rattle.psy_sizes.proofs.SpreadSums.{same_below, below_some}
 use Rattle.psy_sizes.proofs.PassedTables.{table_told}
 use Rattle.psy_sizes.proofs.Told.{AreTold}

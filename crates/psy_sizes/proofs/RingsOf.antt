@@ -1,8 +1,6 @@
 -- The size of a variable's ring, by the most of its dates that may pass.
-use Rattle.std.proofs.Common.{◌≡◌, ℕ, ◌+◌, ◌-◌, ◌<◌, ◌≤◌, ◌↔◌, List, [], ◌∷◌, ◌++◌, Some, length, get_or, refl, sym, ap, subst, ◌∙◌, inl, inr, arith}
+use Rattle.std.proofs.Common.{◌≡◌, ℕ, ◌+◌, ◌-◌, ◌≤◌, ◌↔◌, List, Some, length, get_or, refl, sym, ap, ◌∙◌, inl, inr, arith}
 use Rattle.std.specs.Prelude.{slice_get}
-use Rattle.std.proofs.lemmas.Bool.{cases_lt}
-use Rattle.std.proofs.lemmas.List.{get_or_append_left, get_or_push}
 use Rattle.std.proofs.lemmas.Option.{same_Some}
 use Rattle.psy_clock.specs.declared.clock.Clock.{Clock}
 use Rattle.psy_tree.specs.declared.unit.Unit.{Unit as Whole}
@@ -39,11 +37,3 @@ one_size unit ways nexts variable size other a b =
     let same : a.decl ≡ b.decl = same_Some a.decl b.decl (sym a.declared ∙ b.declared) in
     let depths : a.decl.depth ≡ b.decl.depth = ap (λ v. v.depth) same in
     omega (arith, depths, a.sum, b.sum, not_less unit ways nexts variable size other a b, not_less unit ways nexts variable other size b a)
-
--- What holds by number of each item holds of one more.
-pub each_more : {X : Type 0} (P : ℕ → X → Type 0) (xs ys : List X) (x : X) (n : ℕ) → length xs ≡ n → ((i : ℕ) (d : X) → i < n → P i (get_or xs i d)) → P n x → ys ≡ xs ++ x ∷ [] → (i : ℕ) (d : X) → i < n + 1 → P i (get_or ys i d)
-each_more P xs ys x n count each one pushed i d l = elim (cases_lt i n) [
-  | inl h ↦ subst (P i) (sym (ap (λ zs. get_or zs i d) pushed ∙ get_or_append_left xs (x ∷ []) d i (omega (arith, h, count)))) (each i d h)
-  | inr h ↦ (let is : i ≡ n = omega (arith, l, h) in
-      subst (P i) (sym (ap (λ zs. get_or zs i d) pushed ∙ get_or_push xs x d i (count ∙ sym is))) (subst (λ k. P k x) (sym is) one))
-]

@@ -11,28 +11,8 @@ use Rattle.psy_clock.specs.Dates.{IsClock}
 use Rattle.psy_tree.specs.declared.unit.Point.{Point}
 use Rattle.psy_meaning.specs.Graph.{IsLeastCommonMultiple, IsCycle}
 use Rattle.psy_sizes.specs.Windows.{timing_by}
-use Rattle.psy_sizes.proofs.Multiples.{IsJoined, gcd_exists, gcd_some, joined_is, shared_joined}
-
--- ---- the least common multiple of one number more
-
-nil_least : IsLeastCommonMultiple [] 1
-nil_least = record { common = All-nil (λ number. number ∣ 1); least = λ m h. one-dvd m }
-
-module _ (k : ℕ) (numbers : List ℕ) (n : ℕ) (all : All (λ number. number ∣ k) (numbers ++ n ∷ [])) where
-  front_of : All (λ number. number ∣ k) numbers
-  front_of i d l = subst (λ x. x ∣ k) (get_or_append_left numbers (n ∷ []) d i l) (all i d (omega (arith, l, length-append numbers (n ∷ []))))
-
-  last_of : n ∣ k
-  last_of = subst (λ x. x ∣ k) (get_or_push numbers n 0 (length numbers) refl) (all (length numbers) 0 (omega (arith, length-append numbers (n ∷ []))))
-
-least_more : (n m j : ℕ) (numbers : List ℕ) → IsLeastCommonMultiple numbers m → IsJoined m n j → IsLeastCommonMultiple (numbers ++ n ∷ []) j
-least_more n m j numbers h join = record {
-  common = All-push (λ number. number ∣ j) numbers n (λ k d l. dvd_trans _ (h.common k d l) join.left) join.right;
-  least = λ k all. join.least k (h.least k (front_of k numbers n all)) (last_of k numbers n all);
-}
-
-least_same : (numbers : List ℕ) (m n : ℕ) → IsLeastCommonMultiple numbers m → IsLeastCommonMultiple numbers n → m ≡ n
-least_same numbers m n hm hn = dvd_antisymm (hm.least n hn.common) (hn.least m hm.common)
+use Rattle.psy_graph.proofs.lemmas.Cycles.{IsJoined, least_nil, least_push, least_same}
+use Rattle.psy_sizes.proofs.Multiples.{gcd_exists, gcd_some, joined_is, shared_joined}
 
 -- ---- what a period shares with it
 
@@ -44,7 +24,7 @@ pub record Shares (numbers : List ℕ) (period shared : ℕ) : Type 0 where
   pub is : IsGcd multiple period shared
 
 pub shares_nil : (period : ℕ) → Shares [] period 1
-shares_nil period = record { multiple = 1; least = nil_least; some = omega arith; is = (one-dvd 1, one-dvd period, λ d l r. l) }
+shares_nil period = record { multiple = 1; least = least_nil; some = omega arith; is = (one-dvd 1, one-dvd period, λ d l r. l) }
 
 pub shares_some : (numbers : List ℕ) (period shared : ℕ) → Shares numbers period shared → 1 ≤ shared
 shares_some numbers period shared h = gcd_some h.multiple period shared h.some h.is
@@ -52,12 +32,12 @@ shares_some numbers period shared h = gcd_some h.multiple period shared h.some h
 pub shares_more : (numbers : List ℕ) (period shared own common divisor : ℕ) → 1 ≤ period → 1 ≤ own → Shares numbers period shared → IsGcd own period common → IsGcd shared common divisor →
     Shares (numbers ++ own ∷ []) period (shared / divisor * common)
 shares_more numbers period shared own common divisor some lo h of_own between =
-    let (g, is) = gcd_exists h.multiple own h.some lo in
+    let (g, is) = gcd_exists h.multiple own in
     let join : IsJoined h.multiple own (h.multiple / g * own) = joined_is h.multiple own g h.some lo is in
     let small : IsJoined shared common (shared / divisor * common) = joined_is shared common divisor (shares_some numbers period shared h) (gcd_some own period common lo of_own) between in
     record {
       multiple = h.multiple / g * own;
-      least = least_more own h.multiple (h.multiple / g * own) numbers h.least join;
+      least = least_push own h.multiple (h.multiple / g * own) numbers h.least join;
       some = join.some;
       is = shared_joined h.multiple own period shared common (h.multiple / g * own) (shared / divisor * common) h.some lo some h.is of_own join small;
     }

@@ -1,5 +1,5 @@
 -- The spread of an agent by its table, whether the table is too large, and the sums of spreads.
-use Rattle.std.proofs.Common.{◌≡◌, ℕ, ◌+◌, ◌*◌, ◌<◌, ◌≤◌, true, List, Result, Ok, Err, IfOk, map, length, sym, ap, subst, ◌∙◌, inl, inr, arith}
+use Rattle.std.proofs.Common.{◌≡◌, ℕ, ◌+◌, ◌*◌, ◌<◌, ◌≤◌, true, List, map, length, sym, ap, subst, ◌∙◌, inl, inr, arith}
 use Rattle.std.proofs.lemmas.Bool.{cases_lt}
 use Rattle.std.proofs.lemmas.List.{length-map}
 use Rattle.psy_base.specs.declared.edge.Edge.{Edge}
@@ -15,11 +15,6 @@ use Rattle.psy_graph.proofs.lemmas.Unique.{drawn_spots}
 use Rattle.psy_sizes.specs.Queues.{IsTop, PassesTableOf}
 use Rattle.psy_sizes.proofs.Tables.{some_node}
 use Rattle.psy_sizes.proofs.WindowOf.{top_is}
-
--- Both hold of a value that is there.
-pub if_both : {T E : Type 0} (r : Result T E) (P Q : T → Type 0) → IfOk r P → IfOk r Q → IfOk r (λ y. P y × Q y)
-if_both (Ok y) P Q p q = (p, q)
-if_both (Err e) P Q p q = tt
 
 -- ---- the table of an agent
 

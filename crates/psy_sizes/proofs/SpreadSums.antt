@@ -7,6 +7,7 @@ use Rattle.std.proofs.lemmas.Option.{same_Some, slice_get-get_or, get_or_from_sl
 use Rattle.psy_base.specs.declared.edge.Edge.{Edge}
 use Rattle.psy_base.specs.declared.limits.TheConstants.{SENDS}
 use Rattle.psy_base.specs.Paths.{FitsFirstFree, IsGreatestWeight}
+use Rattle.psy_lists.proofs.lemmas.Places.{listed}
 use Rattle.psy_tree.specs.declared.unit.Unit.{Unit as Whole}
 use Rattle.psy_meaning.specs.Graph.{Spot, IsGraph, spot_at}
 use Rattle.psy_meaning.specs.KnownWays.{HasMost, Ways}
@@ -18,7 +19,6 @@ use Rattle.psy_window.specs.declared.span.Span.TheVariants.{FirstFree}
 use Rattle.psy_window.specs.Windows.{IsEdge, Fits}
 use Rattle.psy_graph.specs.declared.graph.Graph.{Graph}
 use Rattle.psy_graph.specs.Graphs.{IsGraphOf, spot_of}
-use Rattle.psy_sizes.proofs.Listed.{listed}
 
 -- What stands for an edge where there is none
 abbrev no_edge : Edge

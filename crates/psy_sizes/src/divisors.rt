@@ -9,19 +9,8 @@ ghost use Rattle.psy_clock.specs.declared.clock.TheConstants.{PERIOD};
 ghost use Rattle.psy_sizes.specs.Windows.{timing_by};
 
 use psy_clock::Clock;
+use psy_graph::common_divisor;
 use psy_tree::Point;
-
-/// The greatest common divisor of two numbers.
-fn common_divisor(a: u32, b: u32) -> u32
-    ensures { IsGcd a b result }
-{
-    let mut x = a;
-    let mut y = b;
-    'steps: while y != 0 {
-        (x, y) = (y, x % y);
-    }
-    x
-}
 
 /// The greatest common divisor of a period and of the cycle of an agent with these points. The cycle itself may have many more
 /// digits than 64 bits; each period that makes it shares something with the period that is given, and the least common
@@ -36,8 +25,8 @@ pub fn shared_divisor(clocks: &[Clock], points: &[Point], period: u32) -> u32
     let mut shared = 1;
     'points: for point in 1..points.len() {
         let own = clocks[points[point].clock as usize].period;
-        let common = common_divisor(own, period);
+        let common = common_divisor(u64::from(own), u64::from(period));
         shared = shared / common_divisor(shared, common) * common;
     }
-    shared
+    shared as u32
 }

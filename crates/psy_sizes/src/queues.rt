@@ -1,6 +1,6 @@
 //! The queues of streams.
 
-ghost use Rattle.std.specs.Prelude.{◌≡◌, ◌⊎◌, ℕ, ◌<◌, ◌≤◌, [], ◌∷◌, ◌++◌, length, IfOk, OnOk, IfErr};
+ghost use Rattle.std.specs.Prelude.{◌≡◌, ◌⊎◌, ℕ, ◌<◌, ◌≤◌, length, IfOk, IfErr};
 ghost use Rattle.std.specs.List.{All};
 ghost use Rattle.psy_base.specs.declared.limits.TheConstants.{QUEUE};
 ghost use Rattle.psy_meaning.specs.KnownWays.{Listed};
@@ -16,8 +16,9 @@ use crate::readings::is_sent;
 use crate::spreads::spreads;
 use crate::tops::top;
 use psy_base::limits::QUEUE;
-use psy_base::{Items, Memory, Ways};
+use psy_base::{Items, Ways};
 use psy_graph::Graph;
+use psy_lists::push;
 use psy_tree::Unit;
 use std::alloc::Global;
 
@@ -46,13 +47,6 @@ fn queue(
         return Err(SizeFault::LargeQueue(stream));
     }
     Ok(size as u32)
-}
-
-fn push(sizes: &mut Items<u32>, size: u32) -> Result<(), Memory>
-    ensures { OnOk result (sizes.new ≡ sizes.old ++ size ∷ []) }
-{
-    sizes.push(size)?;
-    Ok(())
 }
 
 /// The sizes of the queues of all streams of a program, in order, from the graphs of its agents. `Cells` and `LargeQueue` name

@@ -1,6 +1,6 @@
 //! How many messages agents send to a stream within its window.
 
-ghost use Rattle.std.specs.Prelude.{◌≡◌, ◌⊎◌, ℕ, ◌+◌, ◌*◌, ◌^◌, ◌<◌, ◌≤◌, [], ◌∷◌, ◌++◌, get_or, length, map, IfOk, OnOk, IfErr};
+ghost use Rattle.std.specs.Prelude.{◌≡◌, ◌⊎◌, ℕ, ◌+◌, ◌*◌, ◌^◌, ◌<◌, ◌≤◌, [], get_or, length, map, IfOk, IfErr};
 ghost use Rattle.std.specs.List.{All};
 ghost use Rattle.psy_base.specs.declared.limits.TheConstants.{WINDOW_CELLS};
 ghost use Rattle.psy_base.specs.Paths.{FitsFirstFree, IsGreatestWeight};
@@ -19,6 +19,7 @@ use crate::readings::{most, sends_to};
 use psy_base::{Edge, Items, Memory, Ways};
 use psy_graph::laws::one_graph;
 use psy_graph::{Graph, Node};
+use psy_lists::push;
 use psy_tree::Unit;
 use psy_window::{Span, WindowFault, weights};
 use std::alloc::Global;
@@ -38,13 +39,6 @@ fn send_edge(ways: &Ways, agent: u32, nodes: &[Node], edge: Edge, stream: u32) -
         weight: most(ways, agent, from, to, stream),
         ..edge
     }
-}
-
-fn push(edges: &mut Items<Edge>, edge: Edge) -> Result<(), Memory>
-    ensures { OnOk result (edges.new ≡ edges.old ++ edge ∷ []) }
-{
-    edges.push(edge)?;
-    Ok(())
 }
 
 /// The edges of an agent's graph, weighted so.

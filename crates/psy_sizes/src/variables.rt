@@ -1,6 +1,6 @@
 //! The rings of temporal variables.
 
-ghost use Rattle.std.specs.Prelude.{◌≡◌, ◌⊎◌, ℕ, ◌≤◌, ◌<◌, [], ◌∷◌, ◌++◌, get_or, length, IfOk, OnOk, IfErr};
+ghost use Rattle.std.specs.Prelude.{◌≡◌, ◌⊎◌, ℕ, ◌≤◌, ◌<◌, [], get_or, length, IfOk, IfErr};
 ghost use Rattle.std.specs.Int.{IsGcd};
 ghost use Rattle.std.specs.List.{All};
 ghost use Rattle.psy_base.specs.declared.limits.TheConstants.{RING};
@@ -20,10 +20,11 @@ use crate::fault::SizeFault;
 use crate::readings::looks;
 use crate::windows::most_between;
 use psy_base::limits::RING;
-use psy_base::{Items, Memory, Ways};
+use psy_base::{Items, Ways};
 use psy_clock::Clock;
 use psy_graph::laws::one_graph;
 use psy_graph::{Graph, Node};
+use psy_lists::push;
 use psy_tree::Unit;
 use std::alloc::Global;
 
@@ -128,13 +129,6 @@ fn ring(unit: &Unit, graphs: &[Graph], ways: &Ways, variable: u32) -> Result<u32
         return Err(SizeFault::LargeRing(variable));
     }
     Ok(decl.depth + most as u32)
-}
-
-fn push(sizes: &mut Items<u32>, size: u32) -> Result<(), Memory>
-    ensures { OnOk result (sizes.new ≡ sizes.old ++ size ∷ []) }
-{
-    sizes.push(size)?;
-    Ok(())
 }
 
 /// The sizes of the rings of all variables of a program, in order, from the graphs of its agents. `LargeRing` names the first

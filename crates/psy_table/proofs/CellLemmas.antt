@@ -1,8 +1,6 @@
 -- Cells whose texts are made of their names.
-use Rattle.std.proofs.Common.{◌≡◌, ℕ, ◌<◌, List, [], length, ◌+◌, ◌∷◌, ◌++◌, take, drop, replicate, refl, map, set, get_or, bytes_eq, false, Some, sym, ap, ◌∙◌, append-nil, arith}
+use Rattle.std.proofs.Common.{◌≡◌, ℕ, ◌<◌, List, [], length, ◌+◌, ◌∷◌, ◌++◌, take, replicate, refl, map, set, get_or, bytes_eq, false, Some, sym, ap, ◌∙◌}
 use Rattle.std.specs.List.{list_any, position}
-use Rattle.std.proofs.Math.ListN.{drop_of_length-le}
-use Rattle.std.proofs.Math.Seq.{take-length}
 use Rattle.std.proofs.lemmas.List.{get_or-map, map-append, map-set, take_more_set}
 use Rattle.std.proofs.lemmas.Grind.{replicate_next}
 use Rattle.psy_passes.specs.Names.{AreDistinct, changed}
@@ -60,9 +58,3 @@ emptied_more items xs i x within is so_far =
 pub empty_each : (names : List (List ℕ)) → ◌≡◌ {A = List (List ℕ)} (replicate (length names) []) (map (λ _. []) names)
 empty_each [] = refl
 empty_each (name ∷ names) = ap (λ ts. [] ∷ ts) (empty_each names)
-
--- What a slice of a whole vector is written back as
-pub written_back : {X : Type 0} (old new : List X) (n : ℕ) → n ≡ length old → length new ≡ length old → take n (new ++ drop (length new) old) ≡ new
-written_back old new n all as_many =
-    ap (λ rest. take n (new ++ rest)) (drop_of_length-le old (omega (arith, as_many))) ∙ ap (take n) (append-nil new)
-    ∙ ap (λ k. take k new) (all ∙ sym as_many) ∙ take-length new

@@ -5,6 +5,7 @@ use Rattle.std.proofs.lemmas.List.Elements.{All-head, All-tail}
 use Rattle.std.specs.Prelude.{Bool, true, false, if◌then◌else◌, ℕ, zero, suc, ◌+◌, ◌<◌, List, [], ◌∷◌, ◌++◌, map, length, replicate, Option, Some, None, IsSome, ◌==◌, slice_get, ℤ}
 use Rattle.std.specs.List.{All, flat_map}
 use Rattle.std.proofs.lemmas.List.{length-replicate}
+use Rattle.psy_meaning.proofs.lemmas.Running.{same_running}
 use Rattle.psy_arith.specs.declared.operators.Trap.{Trap}
 use Rattle.psy_code.specs.declared.code.AgentCode.{AgentCode}
 use Rattle.psy_code.specs.declared.code.Code.{Code}
@@ -30,12 +31,6 @@ use Rattle.psy_machine.specs.Stepping.{AgentMachine, IsNew, Answers, machine_aft
 use Rattle.psy_trials.specs.Actions.{StandsIn, Rests, HasCopies, IsAction, IsUnderWay, IsBehind, Owns, RestsAfter}
 
 -- ---- runs
-
-same_state : (s t : RunState) → Running s ≡ Running t → s ≡ t
-same_state s t e = cc
-
-not_over : (s t : RunState) (run : Run) → run ≡ Running s → IsOver run t → ⊥
-not_over s t run e h = subst (λ r. IsOver r t) e h
 
 -- ---- sends
 
@@ -91,7 +86,7 @@ module _ (unit : Whole) (code : Code) (number : ℕ) (m : Machine) (view : View)
   going = w.lasted.on_the_way w.executed w.early
 
   same : going.state ≡ here
-  same = same_state going.state here (sym going.running ∙ w.running)
+  same = same_running going.state here (sym going.running ∙ w.running)
 
   pub able : next_of code w.its view m ≢ Stuck
   able = subst (λ (s : RunState). next_of code w.its s.view s.machine ≢ Stuck) same going.able

@@ -2,12 +2,8 @@
 use Rattle.std.proofs.Common.{◌≡◌, ◌∙◌, refl, sym, ap, ℕ, ◌<◌, List, [], ◌∷◌, ◌++◌, length, map, true, bytes_eq, codes, arith}
 use Rattle.std.specs.List.{flat_map}
 use Rattle.std.proofs.lemmas.List.{append-nil, append_assoc}
-use Rattle.std.proofs.lemmas.Slice.Eq.{bytes_eq-Decides}
+use Rattle.psy_lists.proofs.lemmas.Texts.{same_text}
 use Rattle.psy_view.specs.Asked.{Where, Asks, asks_where, line_of_words}
-
--- Texts that aren't told apart are the same
-pub same_text : (a b : List ℕ) → true ≡ bytes_eq a b → a ≡ b
-same_text a b e = (bytes_eq-Decides a b).0 (sym e)
 
 -- `where`, a name and some words ask for a refusal to be explained
 pub asks_line : {S : Type 0} (f : S → List ℕ) (command name : List ℕ) (line : List S) → 0 < length line → true ≡ bytes_eq command (codes "where") → Asks (command ∷ name ∷ map f line) (Where name (line_of_words (map f line)))

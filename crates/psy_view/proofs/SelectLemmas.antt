@@ -6,6 +6,7 @@ use Rattle.std.proofs.lemmas.List.Folds.{list_all-map}
 use Rattle.std.proofs.lemmas.Bool.Decides.{nat_tests}
 use Rattle.std.proofs.lemmas.Option.{cond_some}
 use Rattle.psy_base.specs.declared.limits.TheConstants.{WORD_DIGITS}
+use Rattle.psy_lists.proofs.lemmas.Tests.{each_of_both}
 use Rattle.psy_tree.specs.Lexemes.{decimal_value}
 use Rattle.psy_text.specs.Words.{is_number, number_of}
 use Rattle.psy_draw.specs.declared.window.Window.{Window}
@@ -58,11 +59,6 @@ pub none_of_few : (words : List (List ℕ)) → length words < 2 → list_all is
 none_of_few words few none _ _ (of_all_dates all) = cc (none, all)
 none_of_few words few none _ _ (of_two_dates f t m n others same p q all) = let long = ap length same in absurd (omega (arith, long, few))
 
--- What holds of both
-and_true : (a b : Bool) → (a && b) ≡ true → (a ≡ true) × (b ≡ true)
-and_true true b e = (refl, e)
-and_true false b e = absurd (cc e)
-
 or_falls : (a b : Bool) → (not (a || true) && b) ≡ false
 or_falls true b = refl
 or_falls false b = refl
@@ -74,15 +70,15 @@ no_sign b digit = grind (arith, nat_tests)
 -- A number is digits.
 digits_of : (word : List ℕ) → is_number word ≡ true → list_all is_ascii_digit word ≡ true
 digits_of word is =
-    let both = and_true (nat_le 1 (length word)) _ is in
-    (and_true (nat_le (length word) WORD_DIGITS) (list_all is_ascii_digit word) both.1).1
+    let both = each_of_both (nat_le 1 (length word)) _ is in
+    (each_of_both (nat_le (length word) WORD_DIGITS) (list_all is_ascii_digit word) both.1).1
 
 -- A file isn't among dates and names.
 digits_alone : (word : List ℕ) → list_all is_ascii_digit word ≡ true → is_file word ≡ false
 digits_alone [] all = refl
 digits_alone (b ∷ word) all =
-    let digit : is_ascii_digit b ≡ true = (and_true (is_ascii_digit b) (list_all is_ascii_digit word) all).0 in
-    let more : list_all is_ascii_digit word ≡ true = (and_true (is_ascii_digit b) (list_all is_ascii_digit word) all).1 in
+    let digit : is_ascii_digit b ≡ true = (each_of_both (is_ascii_digit b) (list_all is_ascii_digit word) all).0 in
+    let more : list_all is_ascii_digit word ≡ true = (each_of_both (is_ascii_digit b) (list_all is_ascii_digit word) all).1 in
     let here : (b == 46 || b == 47) ≡ false = no_sign b digit in
     ap (λ t. t || is_file word) here ∙ digits_alone word more
 

@@ -1,7 +1,8 @@
-//! Tries cases on `psyc`: programs, words, files and devices, and the answers that are wanted.
+//! Tries cases on `psyc`: programs, words, files and devices, and the answers that are wanted; and last a run that is too long for a command.
 #![tactic(auto)]
 
 mod left;
+mod long;
 mod over;
 
 use psy_base::Memory;
@@ -34,12 +35,24 @@ fn list(rt: &(impl Env + AllocGlobal)) -> Option<String> {
 
 fn main(rt: HostRuntime) -> ExitCode {
     laws::one_answer();
-    laws::some_answer();
     let Some(list) = list(&rt) else {
         return ExitCode::from(2);
     };
     let mut shelf = FileShelf::new(&rt);
     let mut out = StdSink::new(rt.stdout());
     let status = run_list(rt.alloc(), list.as_str(), &mut Psyc, &mut shelf, &mut out);
-    ExitCode::from(status)
+    if status != 0 {
+        return ExitCode::from(status);
+    }
+    let Some(ran) = long::written(rt.alloc()) else {
+        return ExitCode::from(8);
+    };
+    let text = ran.bytes();
+    match str::from_utf8(long::end(text)) {
+        Ok(end) => match print!(rt; "{} bytes\n{end}", text.len()) {
+            Ok(()) => ExitCode::from(0),
+            Err(_) => ExitCode::from(4),
+        },
+        Err(_) => ExitCode::from(1),
+    }
 }

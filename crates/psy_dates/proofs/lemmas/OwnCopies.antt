@@ -3,12 +3,13 @@ use Rattle.std.proofs.Common.{◌≡◌, refl, sym, ap, subst, ◌∙◌, inl, i
 use Rattle.std.specs.Prelude.{◌⊎◌, ℕ, zero, suc, ◌+◌, ◌<◌, if◌then◌else◌, List, [], ◌∷◌, ◌++◌, length, get_or, Option, Some, None, slice_get}
 use Rattle.std.proofs.lemmas.Bool.{cases_eq, eq-eqb, ne_eqb}
 use Rattle.std.proofs.lemmas.Option.{get_or_from_slice_get, slice_get_read}
+use Rattle.psy_tree.proofs.lemmas.Lists.{slice_get-behind}
 use Rattle.psy_code.specs.declared.code.AgentCode.{AgentCode}
 use Rattle.psy_code.specs.declared.code.Code.{Code}
 use Rattle.psy_code.specs.declared.code.CopyInit.{CopyInit}
 use Rattle.psy_code.specs.Execution.{Copy}
 use Rattle.psy_meaning.specs.Alike.{owned_copy, owned_from}
-use Rattle.psy_history.specs.Executors.{agent_code_at}
+use Rattle.psy_meaning.specs.CodeWays.{agent_code_at}
 use Rattle.psy_history.specs.Fitting.{IsCodeFor}
 use Rattle.psy_tree.specs.declared.unit.Unit.{Unit as Whole}
 use Rattle.psy_tree.specs.declared.unit.VarDecl.{VarDecl}
@@ -22,15 +23,6 @@ IsOwned agent first variables number = (n : ℕ) × (v : VarDecl) × (number ≡
 abbrev IsListed : List Copy → ℕ → Type 0
 IsListed copies number = (place : ℕ) × (c : Copy) × (slice_get copies place ≡ Some c) × (c.variable ≡ number)
 
-at_front : {X : Type 0} (xs ys : List X) (place : ℕ) (x : X) → slice_get xs place ≡ Some x → slice_get (xs ++ ys) place ≡ Some x
-at_front [] ys place x e = cc
-at_front (y ∷ xs) ys zero x e = e
-at_front (y ∷ xs) ys (suc place) x e = at_front xs ys place x e
-
-at_back : {X : Type 0} (xs ys : List X) (place : ℕ) → slice_get (xs ++ ys) (length xs + place) ≡ slice_get ys place
-at_back [] ys place = (let same : 0 + place ≡ place = omega arith in ap (slice_get ys) same)
-at_back (x ∷ xs) ys place = (let same : suc (length xs) + place ≡ suc (length xs + place) = omega arith in ap (slice_get ((x ∷ xs) ++ ys)) same ∙ at_back xs ys place)
-
 one_listed : (agent first : ℕ) (v : VarDecl) (rest : List Copy) → v.owner ≡ Some agent → IsListed (owned_copy agent first v v.owner ++ rest) first
 one_listed agent first v rest owned =
     let same : owned_copy agent first v v.owner ≡ record { variable = first; value = v.init } ∷ [] =
@@ -38,7 +30,7 @@ one_listed agent first v rest owned =
     subst (λ copies. IsListed (copies ++ rest) first) (sym same) (0, record { variable = first; value = v.init }, refl, refl)
 
 later_listed : (here rest : List Copy) (number : ℕ) → IsListed rest number → IsListed (here ++ rest) number
-later_listed here rest number l = (length here + l.0, l.1, at_back here rest l.0 ∙ l.2, l.3)
+later_listed here rest number l = (length here + l.0, l.1, slice_get-behind here rest l.0 ∙ l.2, l.3)
 
 -- Each variable that the agent owns is listed.
 listed_from : (agent first : ℕ) (variables : List VarDecl) (n : ℕ) (v : VarDecl) → slice_get variables n ≡ Some v → v.owner ≡ Some agent → IsListed (owned_from agent first variables) (first + n)

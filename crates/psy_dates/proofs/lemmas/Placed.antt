@@ -1,5 +1,5 @@
 -- Lists by place: one item more, and items that change one after the other.
-use Rattle.std.proofs.Common.{◌≡◌, ℕ, zero, suc, ◌+◌, ◌<◌, ◌≤◌, Bool, false, List, [], ◌∷◌, ◌++◌, drop, length, get_or, Some, refl, sym, ap, subst, ◌∙◌, inl, inr, arith, slice_set}
+use Rattle.std.proofs.Common.{◌≡◌, ℕ, ◌+◌, ◌<◌, ◌≤◌, Bool, false, List, drop, length, get_or, Some, refl, sym, ap, subst, ◌∙◌, inl, inr, arith, slice_set}
 use Rattle.std.specs.List.{slice_get}
 use Rattle.std.proofs.lemmas.Bool.{cases_eq, cases_lt}
 use Rattle.std.proofs.lemmas.List.{length-set}
@@ -7,12 +7,6 @@ use Rattle.std.proofs.lemmas.Option.{slice_get_within}
 use Rattle.psy_dates.specs.Movers.{IsDoneBelow, NamesAll}
 use Rattle.psy_dates.proofs.lemmas.Names.{named_last, named_next}
 use Rattle.psy_dates.proofs.lemmas.Sets.{get_set_other, get_set_there}
-
-pub each_pushed : {X : Type 0} (P : ℕ → X → Type 0) (xs : List X) (x : X) → ((place : ℕ) (y : X) → slice_get xs place ≡ Some y → P place y) → P (length xs) x → (place : ℕ) (y : X) → slice_get (xs ++ x ∷ []) place ≡ Some y → P place y
-each_pushed P [] x all last zero y e = (let same : x ≡ y = cc in subst (P 0) same last)
-each_pushed P [] x all last (suc place) y e = absurd (cc)
-each_pushed P (z ∷ xs) x all last zero y e = all zero y e
-each_pushed P (z ∷ xs) x all last (suc place) y e = each_pushed (λ n. P (suc n)) xs x (λ n. all (suc n)) last place y e
 
 pub none_done : {X : Type 0} (made : ℕ → X → X) (xs : List X) → IsDoneBelow made 0 xs xs
 none_done made xs = record { count = refl; done = λ place x l e. absurd (omega (arith, l)); ahead = λ place l. refl }

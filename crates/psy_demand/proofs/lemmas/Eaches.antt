@@ -1,17 +1,12 @@
 -- What each graph of a list has, where both lists grow.
-use Rattle.std.proofs.Common.{◌≡◌, ◌∙◌, ℕ, zero, suc, ◌+◌, ◌<◌, List, [], ◌∷◌, ◌++◌, Some, length, length-append, take, get_or, refl, sym, ap, subst₂, arith}
+use Rattle.std.proofs.Common.{◌≡◌, ◌∙◌, ℕ, zero, suc, ◌+◌, ◌<◌, List, [], ◌∷◌, ◌++◌, Some, length, length-append, take, get_or, sym, ap, subst₂, arith}
 use Rattle.std.specs.Prelude.{slice_get}
 use Rattle.std.proofs.lemmas.List.{take_more}
 use Rattle.std.specs.List.{All}
 use Rattle.std.proofs.lemmas.Option.{none-some, same_Some, slice_get-get_or}
+use Rattle.psy_lists.proofs.lemmas.Places.{there}
 use Rattle.psy_graph.specs.declared.graph.Graph.{Graph}
 use Rattle.psy_demand.specs.Criterion.{AreEach}
-
--- There is an element by each number below the length.
-there : {X : Type 0} (xs : List X) (i : ℕ) → i < length xs → (x : X) × (slice_get xs i ≡ Some x)
-there [] i less = absurd (omega (arith, less))
-there (x ∷ xs) zero less = (x, refl)
-there (x ∷ xs) (suc i) less = there xs i (omega (arith, less))
 
 module _ {X : Type 0} (Is : Graph → X → Type 0) where
   each_pushed : (graphs : List Graph) (things : List X) (graph : Graph) (thing : X) → length things ≡ length graphs

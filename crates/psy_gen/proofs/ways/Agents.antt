@@ -14,7 +14,7 @@ use Rattle.psy_gen.proofs.PlaceCounts.{places_count}
 
 module _ (unit : Whole) (number : ℕ) (agent : AgentDecl) (got : slice_get unit.agents number ≡ Some agent) where
   abbrev its : AgentCode
-  its = code.code_of (code_of unit) number
+  its = code.agent_code_at (code_of unit) number
 
   pub stands : AgentAt unit (code_of unit) number agent its
   stands =

@@ -1,6 +1,7 @@
 -- Each place of the code of statements is come to, and a way goes on from it; each of their sends stands at a place.
 use Rattle.std.proofs.Common.{◌≡◌, ℕ, ◌+◌, ◌<◌, ◌≤◌, List, [], ◌∷◌, ◌++◌, map, Some, None, refl, sym, ap, subst, ◌∙◌, inl, inr, arith}
 use Rattle.std.specs.Prelude.{slice_get, ◌-◌, false}
+use Rattle.psy_lists.proofs.lemmas.Tests.{differ}
 use Rattle.psy_code.specs.declared.instr.Instr.{Instr}
 use Rattle.psy_code.specs.declared.instr.Instr.TheVariants as instr
 use Rattle.psy_tree.specs.declared.unit.Expr.{Expr}
@@ -17,7 +18,6 @@ use Rattle.psy_meaning.proofs.lemmas.SoundParts.{stmts_natural}
 use Rattle.psy_gen.specs.Emission.{Layout, Part, Placed, Places, base_of, cells_in_slot, expr_code}
 use Rattle.psy_gen.specs.Emission.{block_size, block_loops, placed_size, if_code, bounded_code, timed_code, stmt_code_step, stmt_code, stmts_code, places_in}
 use Rattle.psy_gen.specs.Emission.{places_step, places_of}
-use Rattle.psy_gen.proofs.Basics.{differ}
 use Rattle.psy_gen.proofs.Contexts.{HasAt, has-first}
 use Rattle.psy_gen.proofs.Equations.{part, placed, block_size_is, placed_size_is, stmt_roll, stmt_size_roll}
 use Rattle.psy_gen.proofs.ways.Behinds.{expr_behind, stmt_behind, stmts_behind}

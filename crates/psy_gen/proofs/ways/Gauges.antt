@@ -1,8 +1,9 @@
 -- What is counted: looks at a variable, or sends of some kind.
-use Rattle.std.proofs.Common.{◌≡◌, ℕ, zero, suc, ◌<◌, Bool, true, false, cond, List, [], ◌∷◌, length, get_or, refl, ap, ◌∙◌, arith}
+use Rattle.std.proofs.Common.{◌≡◌, ℕ, suc, ◌<◌, Bool, true, false, cond, List, [], ◌∷◌, refl, ap, ◌∙◌, arith}
 use Rattle.std.specs.Prelude.{◌==◌}
 use Rattle.std.specs.List.{count_by, Contains}
 use Rattle.std.proofs.lemmas.List.Sums.{sum_by-cons, sum_by_push}
+use Rattle.psy_lists.proofs.lemmas.Searches.{some_pass}
 use Rattle.psy_code.specs.declared.instr.Instr.{Instr}
 use Rattle.psy_code.specs.declared.instr.Instr.TheVariants as instr
 use Rattle.psy_code.specs.Views.{Looked}
@@ -74,10 +75,5 @@ pub find_among : {X : Type 0} (counts : X → Bool) (xs : List X) → 0 < count_
 find_among counts [] h = absurd (omega (arith, h))
 find_among counts (x ∷ xs) h = first_or counts x xs (counts x) refl h (find_among counts xs)
 
-at_least : {X : Type 0} (counts : X → Bool) (xs : List X) (x : X) (i : ℕ) → i < length xs → get_or xs i x ≡ x → counts x ≡ true → 0 < count_by counts xs
-at_least counts [] x i less e h = absurd (omega (arith, less))
-at_least counts (y ∷ xs) x zero less e h = omega (arith, sum_by-cons (λ y. cond (counts y) 1 0) y xs, ap {B = ℕ} (λ b. cond b 1 0) (ap counts e ∙ h))
-at_least counts (y ∷ xs) x (suc i) less e h = omega (arith, sum_by-cons (λ y. cond (counts y) 1 0) y xs, at_least counts xs x i (omega (arith, less)) e h)
-
 pub some_among : {X : Type 0} (counts : X → Bool) (xs : List X) (x : X) → Contains xs x → counts x ≡ true → 0 < count_by counts xs
-some_among counts xs x (i, less, e) h = at_least counts xs x i less e h
+some_among counts xs x (i, less, e) h = some_pass counts xs x i less e h

@@ -1,13 +1,13 @@
 -- The lists of the ways of code are lists of the ways of statements, where these ways are the same.
 use Rattle.std.proofs.Common.{◌≡◌, ◌↔◌, ℕ, ◌<◌, ◌≤◌, List, length, Some, sym, ap, subst, ◌∙◌, inl, inr, arith}
-use Rattle.std.specs.Prelude.{slice_get, ◌⊎◌, option_map}
+use Rattle.std.specs.Prelude.{slice_get, option_map}
 use Rattle.std.proofs.lemmas.List.{length-map}
 use Rattle.std.proofs.lemmas.List.Elements.{All-get_or}
 use Rattle.std.proofs.lemmas.Option.{get_or_from_slice_get, slice_get-get_or, slice_get-map, slice_get_within}
-use Rattle.psy_base.specs.Extremes.{IsMost}
 use Rattle.psy_base.specs.declared.limits.TheConstants.{SENDS}
 use Rattle.psy_base.specs.declared.ways.SendWay.{SendWay}
 use Rattle.psy_base.specs.declared.ways.Ways.{Ways}
+use Rattle.psy_flow.proofs.lemmas.Mosts.{no_more}
 use Rattle.psy_code.specs.declared.code.Code.{Code}
 use Rattle.psy_tree.specs.declared.unit.AgentDecl.{AgentDecl}
 use Rattle.psy_tree.specs.declared.unit.Unit.{Unit as Whole}
@@ -28,10 +28,6 @@ use Rattle.psy_gen.proofs.Basics.{some_is}
 
 cut_over : (Has Had : ℕ → Type 0) (limit n : ℕ) → ((m : ℕ) → Has m ↔ Had m) → IsCut Has limit n → IsCut Had limit n
 cut_over Has Had limit n same (m, greatest, is) = (m, record { one = (same m).0 greatest.one; most = λ k had. greatest.most k ((same k).1 had) }, is)
-
-no_more : (Has : ℕ → Type 0) (n m : ℕ) → (n ≡ 0) ⊎ Has n → IsMost Has m → n ≤ m
-no_more Has n m (inl e) most = omega (arith, e)
-no_more Has n m (inr has) most = most.all n has
 
 -- ---- by agent and point
 

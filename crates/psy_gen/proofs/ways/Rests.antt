@@ -2,6 +2,7 @@
 use Rattle.std.proofs.Common.{◌≡◌, ℕ, zero, suc, ◌+◌, ◌<◌, List, [], ◌∷◌, ◌++◌, map, length, Some, None, get_or, refl, sym, ap, subst, arith}
 use Rattle.std.specs.Prelude.{slice_get, slice_index_or, false, ⊤}
 use Rattle.std.proofs.lemmas.List.{append-nil, map-id}
+use Rattle.psy_meaning.proofs.lemmas.RestPieces.{stmts_are}
 use Rattle.psy_code.specs.declared.instr.Instr.{Instr}
 use Rattle.psy_code.specs.declared.instr.Instr.TheVariants as instr
 use Rattle.psy_tree.specs.declared.unit.Expr.{Expr}
@@ -23,7 +24,6 @@ use Rattle.psy_gen.specs.Keeping.{keeps_step}
 use Rattle.psy_gen.proofs.Contexts.{HasAt, has-first}
 use Rattle.psy_gen.proofs.Equations.{part, placed, block_size_is, placed_size_is, stmt_roll, stmt_size_roll}
 use Rattle.psy_gen.proofs.NoRests.{all_none}
-use Rattle.psy_gen.proofs.RestRuns.{stmts_are}
 use Rattle.psy_gen.proofs.ways.Behinds.{expr_behind, stmt_behind, stmts_behind}
 use Rattle.psy_gen.proofs.ways.Joins.{same_joined}
 use Rattle.psy_gen.proofs.ways.Measures.{Measure}

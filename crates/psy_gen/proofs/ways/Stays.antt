@@ -4,6 +4,7 @@ use Rattle.std.specs.Prelude.{slice_get, ◌==◌, ◌⊎◌, ⊤}
 use Rattle.std.proofs.lemmas.List.{length-map}
 use Rattle.std.proofs.Math.Nat.{eq-or-lt_of_le}
 use Rattle.std.proofs.lemmas.Option.{slice_get_within}
+use Rattle.psy_lists.proofs.lemmas.Tests.{differ}
 use Rattle.psy_arith.specs.declared.operators.Op2.{Op2}
 use Rattle.psy_arith.specs.declared.operators.Op2.TheVariants as op
 use Rattle.psy_arith.specs.declared.width.Width.{Width}
@@ -26,7 +27,7 @@ use Rattle.psy_gen.specs.Emission.{Layout, Operand, Part, Placed, Places, base_o
 use Rattle.psy_gen.specs.Emission.{block_size, block_loops, placed_size, if_code, bounded_code, timed_code, stmt_code_step, stmt_code, stmts_code, places_in}
 use Rattle.psy_gen.specs.Emission.{places_step, places_of}
 use Rattle.psy_gen.proofs.Contexts.{HasAt}
-use Rattle.psy_gen.proofs.Basics.{differ, some_is}
+use Rattle.psy_gen.proofs.Basics.{some_is}
 use Rattle.psy_gen.proofs.Equations.{operand, code_roll, size_roll, part, placed, block_size_is, placed_size_is, stmt_roll, stmt_size_roll}
 use Rattle.psy_gen.proofs.Lengths.{expr_length, stmt_length, stmts_length}
 use Rattle.psy_gen.proofs.ways.Kinds.{IsPlain, Forks, plain_on, fork_on}

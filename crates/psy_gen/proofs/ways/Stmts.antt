@@ -2,6 +2,7 @@
 use Rattle.std.proofs.Common.{◌≡◌, ℕ, zero, suc, ◌+◌, List, [], ◌∷◌, ◌++◌, map, Some, None, refl, sym, ap, subst, ◌∙◌, inl, inr, arith}
 use Rattle.std.specs.Prelude.{◌⊎◌, ◌≤◌, true, false}
 use Rattle.std.proofs.lemmas.List.{map-id}
+use Rattle.psy_lists.proofs.lemmas.Tests.{differ}
 use Rattle.psy_code.specs.declared.instr.Instr.{Instr}
 use Rattle.psy_code.specs.declared.instr.Instr.TheVariants as instr
 use Rattle.psy_tree.specs.declared.unit.Expr.{Expr}
@@ -20,7 +21,6 @@ use Rattle.psy_meaning.proofs.lemmas.SoundParts.{stmts_natural}
 use Rattle.psy_gen.specs.Emission.{Layout, Part, base_of, cells_in_slot, block_size, block_loops, expr_code, if_code, bounded_code, timed_code}
 use Rattle.psy_gen.specs.Emission.{stmt_code_step, stmt_code, stmts_code}
 use Rattle.psy_gen.specs.Keeping.{keeps_step}
-use Rattle.psy_gen.proofs.Basics.{differ}
 use Rattle.psy_gen.proofs.Contexts.{HasAt, has-first}
 use Rattle.psy_gen.proofs.Equations.{part, block_size_is, stmt_roll, stmt_size_roll}
 use Rattle.psy_gen.proofs.ways.Behinds.{expr_behind, stmt_behind, stmts_behind}

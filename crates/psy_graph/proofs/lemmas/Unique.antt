@@ -1,22 +1,22 @@
 -- An agent has at most one timing, a timing at most one graph, and no graph within the limits where it passes one.
-use Rattle.std.proofs.Common.{◌≡◌, ℕ, ◌<◌, ◌≤◌, ◌↔◌, inl, inr, List, [], length, map, get_or, sym, ap, subst, ◌∙◌, arith}
-use Rattle.std.specs.List.{AllPairs, Contains}
+use Rattle.std.proofs.Common.{◌≡◌, ℕ, ◌<◌, ◌≤◌, ◌↔◌, inl, inr, List, length, map, get_or, sym, ap, subst, ◌∙◌, arith}
+use Rattle.std.specs.List.{Contains}
 use Rattle.std.proofs.lemmas.List.{ext_get_or, get_or-map, length-map}
 use Rattle.std.proofs.lemmas.List.Elements.{All-contains, Contains-get_or}
 use Rattle.std.proofs.lemmas.Nat.Gcd.{dvd_antisymm}
-use Rattle.std.proofs.lemmas.Option.{same_Some, slice_get-get_or}
+use Rattle.std.proofs.lemmas.Option.{same_Some}
 use Rattle.psy_base.specs.declared.edge.Edge.{Edge}
 use Rattle.psy_base.specs.declared.limits.TheConstants.{NODES, EDGES}
-use Rattle.psy_tree.specs.declared.unit.AgentDecl.{AgentDecl}
-use Rattle.psy_tree.specs.declared.unit.FunctionDecl.{FunctionDecl}
+use Rattle.psy_flow.proofs.lemmas.OneNexts.{nexts_one}
+use Rattle.psy_lists.proofs.lemmas.Ordered.{same_elements}
 use Rattle.psy_tree.specs.declared.unit.Unit.{Unit as Whole}
-use Rattle.psy_meaning.specs.Flow.{AreNexts, Rises}
+use Rattle.psy_meaning.specs.Flow.{AreNexts}
 use Rattle.psy_meaning.specs.Graph.{Spot, SpotBefore, EdgeBefore, IsCycle, IsMet, AreSpots, AreEdges, IsGraph, PassesNodes, PassesEdges}
 use Rattle.psy_meaning.specs.Timing.{Timing, timing_of, deadline, budget_at, MayStart}
 use Rattle.psy_graph.specs.declared.graph.Graph.{Graph}
 use Rattle.psy_graph.specs.declared.graph.Node.{Node}
 use Rattle.psy_graph.specs.Graphs.{spot_of, IsGraphOf, IsSmall, IsTimingOf, HasGraph}
-use Rattle.psy_graph.proofs.lemmas.Ordered.{same_elements, fewer}
+use Rattle.psy_graph.proofs.lemmas.Fewer.{fewer}
 
 -- ---- the orders never hold both ways
 
@@ -140,21 +140,11 @@ one_passed timing nodes (spots, edges, g, small, many) = few_spots timing spots 
 
 -- ---- timings
 
-rising_pairs : (numbers : List ℕ) → Rises numbers → AllPairs (λ m n. m < n) numbers
-rising_pairs numbers rise i j d less within = rise i j _ _ less (slice_get-get_or numbers i d (omega (arith, less, within))) (slice_get-get_or numbers j d within)
-
-pub same_nexts : (functions : List FunctionDecl) (agent : AgentDecl) (nexts others : List (List ℕ)) → AreNexts functions agent nexts → AreNexts functions agent others → nexts ≡ others
-same_nexts functions agent nexts others a b = ext_get_or [] nexts others (a.length ∙ sym b.length) (λ point less.
-    let here = slice_get-get_or nexts point [] less in
-    let there = slice_get-get_or others point [] (omega (arith, less, a.length, b.length)) in
-    same_elements (λ m n. m < n) (λ m n p q. omega (arith, p, q)) _ _ (rising_pairs _ (a.rise point _ here)) (rising_pairs _ (b.rise point _ there))
-    (alike _ _ _ (a.each point _ here) (b.each point _ there)))
-
 pub same_timing : (unit : Whole) (number : ℕ) (timing other : Timing) → IsTimingOf unit number timing → IsTimingOf unit number other → timing ≡ other
 same_timing unit number timing other (agent, nexts, got, are, is) (agent_also, nexts_also, got_also, are_also, is_also) =
     let same : agent_also ≡ agent = same_Some agent_also agent (sym got_also ∙ got) in
     let are_too = subst (λ a. AreNexts unit.functions a nexts_also) same are_also in
-    is ∙ ap (timing_of unit agent) (same_nexts unit.functions agent nexts nexts_also are are_too) ∙ ap (λ a. timing_of unit a nexts_also) (sym same) ∙ sym is_also
+    is ∙ ap (timing_of unit agent) (nexts_one unit.functions agent nexts nexts_also are are_too) ∙ ap (λ a. timing_of unit a nexts_also) (sym same) ∙ sym is_also
 
 -- An agent has one graph.
 pub one_has : (unit : Whole) (number : ℕ) (g h : Graph) → HasGraph unit number g → HasGraph unit number h → g ≡ h

@@ -1,6 +1,6 @@
 -- The least of some numbers.
 use Rattle.std.proofs.Common.{◌≡◌, ℕ, zero, suc, ◌+◌, ◌<◌, ◌≤◌, min, List, [], ◌∷◌, All, length, get_or, sym, subst, inl, inr, arith}
-use Rattle.std.specs.List.{Contains}
+use Rattle.std.specs.List.{Contains, All}
 use Rattle.std.proofs.lemmas.Bool.{cases_lt}
 use Rattle.std.proofs.lemmas.List.Elements.{All-head, All-tail, Contains-get_or, All-from_get_or}
 use Rattle.psy_meaning.specs.Timing.{least}
@@ -38,3 +38,11 @@ least_more xs i n m most e k l = elim (cases_lt k i) [
   | inl h ↦ (let le = most k h in omega (arith, le, e))
   | inr h ↦ (let is : k ≡ i = omega (arith, l, h) in subst (λ j. m ≤ get_or xs j 0) (sym is) (omega (arith, e)))
 ]
+
+pub least_above : (b : ℕ) (xs : List ℕ) → 1 ≤ length xs → All (λ n. b < n) xs → b < least xs
+least_above b [] some all = absurd (omega (arith, some))
+least_above b (x ∷ []) some all = All-head (λ n. b < n) x [] all
+least_above b (x ∷ y ∷ xs) some all =
+    let head : b < x = All-head (λ n. b < n) x (y ∷ xs) all in
+    let rest : b < least (y ∷ xs) = least_above b (y ∷ xs) (omega arith) (All-tail (λ n. b < n) x (y ∷ xs) all) in
+    omega (arith, head, rest)

@@ -1,7 +1,8 @@
 -- Ways that there aren't: to a point without an `advance`, back without a `return`, and through where no path is quiet.
 use Rattle.std.proofs.Common.{◌≡◌, refl, sym, subst, ◌∙◌, inl, inr}
-use Rattle.std.specs.Prelude.{ℕ, zero, suc, Bool, true, false, ◌&&◌, ◌||◌, T, List, [], ◌∷◌, ◌++◌, map, Option, Some, None}
+use Rattle.std.specs.Prelude.{ℕ, zero, suc, Bool, true, false, ◌&&◌, ◌||◌, List, [], ◌∷◌, ◌++◌, map, Option, Some, None}
 use Rattle.std.specs.List.{list_any}
+use Rattle.psy_lists.proofs.lemmas.Tests.{differ}
 use Rattle.psy_tree.specs.declared.unit.Stmt.{Stmt, roll-Stmt, fold-roll-Stmt, rec-roll-Stmt, map-Stmt, ind-Stmt}
 use Rattle.psy_tree.specs.declared.unit.Stmt.TheOpen.{Stmt-F}
 use Rattle.psy_meaning.specs.Statements.{Piece}
@@ -12,9 +13,6 @@ use Rattle.psy_meaning.proofs.lemmas.Layers.{natural_stmt}
 
 abbrev pub NoWay : End → Course → Type 0
 NoWay end course = (m n : Meter) → course end m n → ⊥
-
-differ : {A : Type 0} → true ≡ false → A
-differ h = elim (subst T h (tt {0})) [ ]
 
 pub or_false : (a b : Bool) → (a || b) ≡ false → (a ≡ false) × (b ≡ false)
 or_false false false h = (refl, refl)

@@ -1,6 +1,6 @@
 -- What is left of the proof of `laws::units`.
 use Rattle.psy_budget.specs.Charges.{after_start}
-use Rattle.psy_budget.proofs.Units.{pays, stalls_else, spent}
+use Rattle.psy_budget.proofs.lemmas.Units.{pays, stalls_else, spent}
 use Rattle.psy_budget.proofs.laws.units.Goals as goal
 
 pub returns-clause-paid : goal.returns-clause-paid

@@ -3,7 +3,7 @@ use Rattle.std.proofs.Common.{◌≡◌, ◌==◌, ◌||◌, false, bytes_eq, le
 use Rattle.std.specs.Prelude.{string_bytes}
 use Rattle.std.specs.List.{list_any}
 use Rattle.std.proofs.lemmas.List.{length-map}
-use Rattle.psy_draw.proofs.NameTables.{list_any-map}
+use Rattle.psy_lists.proofs.lemmas.Searches.{list_any-map}
 use Rattle.psy_draw.proofs.choice.is_asked.Goals as goal
 
 pub returns-else-is_empty : goal.returns-else-is_empty

@@ -1,8 +1,9 @@
 -- What is left of the proof of `exporting::export`.
 use Rattle.std.proofs.Common.{◌≡◌, ◌∙◌, ap, sym, subst, Err}
+use Rattle.psy_lists.proofs.lemmas.Results.{err_is}
 use Rattle.psy_door.specs.Faults.{Rose}
 use Rattle.psy_export.specs.Ending.{Ends}
-use Rattle.psy_export.proofs.Endings.{ended_early, err_is, refused, written}
+use Rattle.psy_export.proofs.Endings.{ended_early, refused, written}
 use Rattle.psy_export.proofs.exporting.export.Goals as goal
 
 pub returns-in-Err-clause-ends : goal.returns-in-Err-clause-ends

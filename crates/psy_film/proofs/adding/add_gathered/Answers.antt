@@ -1,9 +1,10 @@
 -- What is left of the proof of `adding::add_gathered`.
 use Rattle.std.proofs.Common.{◌∙◌, ◌++◌, append-nil, arith, map, refl, subst, sym, take, true}
 use Rattle.std.specs.Prelude.{string_bytes}
+use Rattle.psy_lists.proofs.lemmas.Searches.{all_at}
 use Rattle.psy_draw.specs.Gathering.{Gathers, is_known}
 use Rattle.psy_draw.specs.Homes.{housed_of}
-use Rattle.psy_film.proofs.Behind.{all_at, all_behind, one_behind}
+use Rattle.psy_film.proofs.Behind.{all_behind, one_behind}
 use Rattle.psy_film.proofs.adding.add_gathered.Goals as goal
 
 pub loop-note-init : goal.loop-note-init

@@ -1,10 +1,11 @@
 -- What is left of the proof of `checking::check_names`.
 use Rattle.std.proofs.Common.{◌∙◌, ◌<◌, ◌-◌, ◌^◌, None, arith, length, sym}
+use Rattle.psy_passes.proofs.lemmas.ToldApart.{differ_by, same_by}
 use Rattle.psy_film.specs.declared.checking.Checking.{Checking}
 use Rattle.psy_film.proofs.Faults.{of_late}
 use Rattle.psy_film.proofs.Looking.{found_first, none_yet}
 use Rattle.psy_film.proofs.Names.{unlisted_same}
-use Rattle.psy_film.proofs.Readings.{differ_by, other_tail, same_by}
+use Rattle.psy_film.proofs.Readings.{other_tail}
 use Rattle.psy_film.proofs.Walked.{checked}
 use Rattle.psy_film.proofs.checking.check_names.Goals as goal
 

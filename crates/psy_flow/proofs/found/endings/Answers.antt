@@ -1,11 +1,12 @@
 -- What is left of the proof of `found::endings`.
 use Rattle.std.proofs.Common.{◌≡◌, [], ◌∷◌, length, length-append, Some, ap, ◌∙◌, arith}
 use Rattle.std.specs.Prelude.{slice_get}
+use Rattle.psy_lists.proofs.lemmas.Places.{read_is}
 use Rattle.psy_code.specs.declared.instr.Instr.{Instr}
 use Rattle.psy_flow.specs.Bits.{end_cell}
 use Rattle.psy_flow.specs.Quests.{part_of}
 use Rattle.psy_flow.proofs.FoundRows.{endings_are}
-use Rattle.psy_flow.proofs.WayRows.{each_after, read_is}
+use Rattle.psy_flow.proofs.WayRows.{each_after}
 use Rattle.psy_flow.proofs.found.endings.Goals as goal
 
 pub places-preserved : goal.places-preserved

@@ -2,13 +2,13 @@
 use Rattle.std.proofs.Common.{◌≡◌, subst, inl, inr, arith}
 use Rattle.std.specs.Prelude.{◌==◌}
 use Rattle.std.specs.List.{Contains}
+use Rattle.psy_lists.proofs.lemmas.Members.{contains_map}
 use Rattle.psy_meaning.specs.Flow.{IsMostSends}
 use Rattle.psy_meaning.specs.Ways.{Sending}
 use Rattle.psy_meaning.specs.Sendings.{sendings_in}
 use Rattle.psy_flow.specs.Texts.{looks_in, streams_in}
 use Rattle.psy_flow.proofs.Silent.{counted, none_looked}
 use Rattle.psy_flow.proofs.TextLooks.{idle_rest, there_or_not}
-use Rattle.psy_flow.proofs.TextMarks.{contains_mapped}
 use Rattle.psy_flow.proofs.laws.texts.Goals as goal
 
 pub returns-clause-looks : goal.returns-clause-looks
@@ -28,4 +28,4 @@ returns-clause-sends c unit number agent point way its (most, some) = by most
         let known = c.known.ensures unit number agent its in
         let same : send.stream ≡ way.stream = grind (arith, is) in
         let there : Contains (sendings_in agent.stmts) send = c.sendings.ensures unit number agent point way.to met send known.sound its.1 goes has in
-        subst (Contains (streams_in agent.stmts)) same (contains_mapped (λ (s : Sending). s.stream) (sendings_in agent.stmts) send there)
+        subst (Contains (streams_in agent.stmts)) same (contains_map (λ (s : Sending). s.stream) (sendings_in agent.stmts) send there)

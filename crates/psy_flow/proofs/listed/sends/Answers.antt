@@ -2,10 +2,11 @@
 use Rattle.std.proofs.Common.{◌≡◌, ◌<◌, [], ◌∷◌, length, length-append, get_or, sym, ap, subst, ◌∙◌, arith}
 use Rattle.std.specs.Prelude.{Some, slice_get}
 use Rattle.std.proofs.lemmas.Option.{slice_get-get_or}
+use Rattle.psy_lists.proofs.lemmas.Places.{read_is}
 use Rattle.psy_tree.specs.declared.unit.AgentDecl.{AgentDecl}
 use Rattle.psy_meaning.specs.ListedWays.{AreSends}
 use Rattle.psy_flow.specs.Listed.{AreOf}
-use Rattle.psy_flow.proofs.WayRows.{AllSendsAt, by_point, each_after, read_is}
+use Rattle.psy_flow.proofs.WayRows.{AllSendsAt, by_point, each_after}
 use Rattle.psy_flow.proofs.listed.sends.Goals as goal
 
 pub agents-preserved : goal.agents-preserved

@@ -2,11 +2,12 @@
 use Rattle.std.proofs.Common.{◌≡◌, ◌+◌, ◌∙◌, [], false, length, sym, ap, subst, arith}
 use Rattle.std.specs.Prelude.{replicate}
 use Rattle.std.proofs.lemmas.List.{length-replicate}
+use Rattle.psy_lists.proofs.lemmas.Places.{written_back}
 use Rattle.psy_meaning.specs.Flow.{MayLook}
 use Rattle.psy_meaning.specs.ListedWays.{AreLooks}
 use Rattle.psy_flow.specs.Listed.{AreLooksBelow, AreOf}
 use Rattle.psy_flow.specs.Texts.{looks_in, marked_at}
-use Rattle.psy_flow.proofs.Longer.{empty_are, same_are, written_back}
+use Rattle.psy_flow.proofs.Longer.{empty_are, same_are}
 use Rattle.psy_flow.proofs.NumbersBelow.{all_below, none_below}
 use Rattle.psy_flow.proofs.TextMarks.{length-marked_at, unmarked}
 use Rattle.psy_flow.proofs.looking.looks_by_point.Goals as goal

@@ -1,10 +1,10 @@
 -- What is left of the proof of `reach::+reach`.
 use Rattle.std.proofs.Common.{◌≡◌, ◌+◌, true, ◌&&◌, List, [], ◌∷◌, drop, sym, ap, refl, ◌∙◌, arith}
 use Rattle.std.proofs.lemmas.List.{drop_all}
+use Rattle.psy_lists.proofs.lemmas.Places.{drop_read}
 use Rattle.psy_tree.specs.declared.unit.Stmt.{Stmt}
 use Rattle.psy_flow.specs.Reach.{falls, all_fall, some_reaches, marked}
 use Rattle.psy_flow.proofs.Marks.{marked_same, marked_none}
-use Rattle.psy_flow.proofs.Rests.{dropped}
 use Rattle.psy_flow.proofs.ReachPieces.{fall-cons, marked_on, marked_stop}
 use Rattle.psy_flow.proofs.ReachVariants.{reach_return, reach_none, marked_if_else, fall_bounded, reach_bounded, reach_no_turn}
 use Rattle.psy_flow.proofs.reach.+reach.Goals as goal
@@ -45,7 +45,7 @@ reach_stmts-returns-then-not-reach_stmt-clause-marks t c =
     let rest : List Stmt = drop (c.loop-stmt.stmt-index + 1) stmts in
     c.reach_stmt.ensures.marks
     ∙ marked_stop marks c.stmt-item.result rest (sym c.if-not-reach_stmt.ensures.falls)
-    ∙ ap (λ ss. marked marks (some_reaches ss)) (sym (dropped stmts c.loop-stmt.stmt-index c.stmt-item.result c.loop-stmt-test.true c.stmt-item.is))
+    ∙ ap (λ ss. marked marks (some_reaches ss)) (sym (drop_read stmts c.loop-stmt.stmt-index c.stmt-item.result c.loop-stmt-test.true c.stmt-item.is))
     ∙ c.loop-stmt.invariant.1
 
 pub reach_stmts-loop-stmt-preserved : goal.reach_stmts-loop-stmt-preserved
@@ -54,7 +54,7 @@ reach_stmts-loop-stmt-preserved t c =
     let stmts = c.args.stmts.now in
     let x : Stmt = c.stmt-item.result in
     let rest : List Stmt = drop (c.loop-stmt.stmt-index + 1) stmts in
-    let on : drop c.loop-stmt.stmt-index stmts ≡ x ∷ rest = dropped stmts c.loop-stmt.stmt-index x c.loop-stmt-test.true c.stmt-item.is in
+    let on : drop c.loop-stmt.stmt-index stmts ≡ x ∷ rest = drop_read stmts c.loop-stmt.stmt-index x c.loop-stmt-test.true c.stmt-item.is in
     let falls_on : falls x ≡ true = sym c.if-not-reach_stmt.ensures.falls in (
       sym (ap all_fall on ∙ fall-cons x rest ∙ ap (λ b. b && all_fall rest) falls_on) ∙ c.loop-stmt.invariant.0,
       ap (λ ms. marked ms (some_reaches rest)) c.reach_stmt.ensures.marks ∙ marked_on marks x rest falls_on ∙ ap (λ ss. marked marks (some_reaches ss)) (sym on) ∙ c.loop-stmt.invariant.1,

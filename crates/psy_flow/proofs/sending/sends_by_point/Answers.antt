@@ -2,12 +2,13 @@
 use Rattle.std.proofs.Common.{◌≡◌, ◌+◌, ◌∙◌, [], false, length, sym, ap, subst, arith}
 use Rattle.std.specs.Prelude.{replicate}
 use Rattle.std.proofs.lemmas.List.{length-replicate}
+use Rattle.psy_lists.proofs.lemmas.Places.{written_back}
 use Rattle.psy_meaning.specs.Flow.{IsMostSends}
 use Rattle.psy_meaning.specs.ListedWays.{AreSends}
 use Rattle.psy_flow.specs.Listed.{AreOf, AreSendsUpTo}
 use Rattle.psy_flow.specs.Texts.{marked_at, streams_in}
 use Rattle.psy_flow.proofs.Cuts.{one_most}
-use Rattle.psy_flow.proofs.Longer.{empty_are, same_are, written_back}
+use Rattle.psy_flow.proofs.Longer.{empty_are, same_are}
 use Rattle.psy_flow.proofs.SendsUpTo.{all_ends, none_before}
 use Rattle.psy_flow.proofs.sending.sends_by_point.Goals as goal
 

@@ -1,7 +1,7 @@
 -- What is left of the proof of `stack::depth_of_stack`.
 use Rattle.std.proofs.Common.{ap, ◌∙◌, arith}
+use Rattle.psy_lists.proofs.lemmas.Places.{there}
 use Rattle.psy_meaning.specs.Depths.{Depth}
-use Rattle.psy_flow.proofs.Lists.{there}
 use Rattle.psy_flow.proofs.Uncapped.{agent_known}
 use Rattle.psy_flow.proofs.stack.depth_of_stack.Goals as goal
 

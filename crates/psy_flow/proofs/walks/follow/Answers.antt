@@ -1,8 +1,8 @@
 -- What is left of the proof of `walks::follow`.
 use Rattle.std.proofs.Common.{◌≡◌, ℕ, get_or, sym, ap, subst, ◌∙◌, inl, inr}
 use Rattle.std.proofs.lemmas.List.Elements.{Contains-get_or}
+use Rattle.psy_lists.proofs.lemmas.Places.{there}
 use Rattle.psy_flow.specs.Walks.{IsPassedFrom, MayFollow}
-use Rattle.psy_flow.proofs.Lists.{there}
 use Rattle.psy_flow.proofs.WalksMet.{followed, grown_has, grown_on, onward_passed}
 use Rattle.psy_flow.proofs.walks.follow.Goals as goal
 

@@ -1,7 +1,7 @@
 -- What is left of the proof of `walks::goes_on_at`.
 use Rattle.std.proofs.Common.{ap, ◌∙◌}
+use Rattle.psy_lists.proofs.lemmas.Places.{read_is}
 use Rattle.psy_flow.specs.Walks.{onward_of}
-use Rattle.psy_flow.proofs.WayRows.{read_is}
 use Rattle.psy_flow.proofs.walks.goes_on_at.Goals as goal
 
 pub returns : goal.returns

@@ -1,12 +1,13 @@
 -- What is left of the proof of `worst_costs::worsts`.
 use Rattle.std.proofs.Common.{◌≡◌, ◌<◌, ℕ, List, [], ◌∷◌, None, Some, length, length-append, get_or, take, slice_get, sym, ap, subst, ◌∙◌, arith}
 use Rattle.std.proofs.lemmas.Option.{slice_get-get_or}
+use Rattle.psy_lists.proofs.lemmas.Places.{read_is}
 use Rattle.psy_tree.specs.declared.unit.AgentDecl.{AgentDecl}
 use Rattle.psy_flow.specs.declared.gauge.Gauge.TheVariants as gauge
 use Rattle.psy_flow.specs.Agents.{IsAgentOf}
 use Rattle.psy_flow.specs.Costs.{AreCosts, AreCounts}
 use Rattle.psy_flow.specs.Tops.{called, capped_from}
-use Rattle.psy_flow.proofs.WayRows.{each_after, read_is}
+use Rattle.psy_flow.proofs.WayRows.{each_after}
 use Rattle.psy_flow.proofs.WorstCosts.{costs_of_agent}
 use Rattle.psy_flow.proofs.worst_costs.worsts.Goals as goal
 

@@ -1,8 +1,8 @@
 -- What is left of the proof of `agents::copies_of`.
 use Rattle.std.proofs.Common.{◌+◌, ◌++◌, drop, map, sym, ap, ◌∙◌}
+use Rattle.psy_lists.proofs.lemmas.Places.{drop_read}
 use Rattle.psy_meaning.specs.Alike.{owned_from}
 use Rattle.psy_gen.specs.Emission.{copy_init}
-use Rattle.psy_gen.proofs.Patches.{drop_read}
 use Rattle.psy_gen.proofs.Wholes.{copies_more}
 use Rattle.psy_gen.proofs.agents.copies_of.Goals as goal
 

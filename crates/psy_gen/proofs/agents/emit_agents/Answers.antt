@@ -1,9 +1,9 @@
 -- What is left of the proof of `agents::emit_agents`.
 use Rattle.std.proofs.Common.{◌+◌, List, ◌++◌, drop, map, length, sym, ap, ◌∙◌, arith}
+use Rattle.psy_lists.proofs.lemmas.Places.{drop_read}
 use Rattle.psy_tree.specs.declared.unit.AgentDecl.{AgentDecl}
 use Rattle.psy_tree.specs.Paths.{total}
 use Rattle.psy_gen.specs.Emission.{codes_from, agent_code, agent_size, agent_entries}
-use Rattle.psy_gen.proofs.Patches.{drop_read}
 use Rattle.psy_gen.proofs.Small.{codes_left}
 use Rattle.psy_gen.proofs.Wholes.{agent_length, agents_more, agent_entries_more}
 use Rattle.psy_gen.proofs.agents.emit_agents.Goals as goal

@@ -1,12 +1,13 @@
 -- What is left of the proof of `expressions::+emit_expr`.
 use Rattle.std.proofs.Common.{rules, ◌+◌, List, ◌++◌, drop, map, length, ap, sym, ◌∙◌, arith}
 use Rattle.std.proofs.lemmas.Result.{on_ok_weaker}
+use Rattle.psy_lists.proofs.lemmas.Places.{drop_read}
 use Rattle.psy_tree.specs.declared.unit.Expr.{Expr, the_lemmas}
 use Rattle.psy_tree.specs.Paths.{total}
 use Rattle.psy_meaning.specs.Sizes.{expr_size}
 use Rattle.psy_gen.specs.Emission.{exprs_code}
 use Rattle.psy_gen.proofs.Equations.{operand, code_number, code_slot, code_copy, code_cell, code_past, code_ready, code_take, code_unary, code_cast, code_binary, code_call, arguments_behind, binary_eager, size_binary, size_lazy}
-use Rattle.psy_gen.proofs.Patches.{then_one, patch_either, then_operator, exprs_more, drop_read, behind_expr, behind_one}
+use Rattle.psy_gen.proofs.Patches.{then_one, patch_either, then_operator, exprs_more, behind_expr, behind_one}
 use Rattle.psy_gen.proofs.Small.{exprs_left}
 use Rattle.psy_gen.proofs.expressions.+emit_expr.Goals as goal
 

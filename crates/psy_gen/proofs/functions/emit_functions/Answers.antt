@@ -1,11 +1,11 @@
 -- What is left of the proof of `functions::emit_functions`.
 use Rattle.std.proofs.Common.{◌+◌, List, ◌++◌, drop, map, length, sym, ap, subst, ◌∙◌, arith}
 use Rattle.std.proofs.lemmas.List.Elements.{All-get_or}
+use Rattle.psy_lists.proofs.lemmas.Places.{drop_read}
 use Rattle.psy_tree.specs.declared.unit.FunctionDecl.{FunctionDecl}
 use Rattle.psy_tree.specs.Paths.{total}
 use Rattle.psy_meaning.specs.Units.{IsBareFunction}
 use Rattle.psy_gen.specs.Emission.{codes_from, function_code, function_size, function_entries}
-use Rattle.psy_gen.proofs.Patches.{drop_read}
 use Rattle.psy_gen.proofs.Small.{codes_left}
 use Rattle.psy_gen.proofs.Wholes.{function_length, functions_more, function_entries_more}
 use Rattle.psy_gen.proofs.functions.emit_functions.Goals as goal

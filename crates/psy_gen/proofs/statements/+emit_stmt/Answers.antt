@@ -1,13 +1,14 @@
 -- What is left of the proof of `statements::+emit_stmt`.
 use Rattle.std.proofs.Common.{rules, ◌+◌, ◌++◌, drop, length, refl, sym, ap, ◌∙◌, arith, append-nil, append_assoc}
 use Rattle.std.proofs.lemmas.Result.{on_ok_weaker}
+use Rattle.psy_lists.proofs.lemmas.Places.{drop_read}
 use Rattle.psy_tree.specs.declared.unit.Stmt.{the_lemmas}
 use Rattle.psy_tree.specs.declared.unit.Stmt.TheVariants as stmt
 use Rattle.psy_meaning.specs.Sizes.{stmt_size, stmts_size}
 use Rattle.psy_meaning.specs.Depths.{loops, loops_in}
 use Rattle.psy_gen.specs.Emission.{stmts_code, stmts_places}
 use Rattle.psy_gen.proofs.Equations.{code_set, code_set_copy, code_set_cell, code_send, code_advance, code_return, places_set, places_set_copy, places_set_cell, places_send, places_advance, places_return, places_if, places_if_else, places_bounded, places_timed, size_set_cell, size_if_front, size_if_else, size_bounded, size_timed, size_advance, loops_if_front, loops_if_else, loops_bounded, loops_timed}
-use Rattle.psy_gen.proofs.Patches.{then_one, then_operator, drop_read, stmts_more, places_more, loops_more, to_first, to_second, to_turn, behind_one, behind_expr, behind_stmts, patch_if, patch_if_else, patch_bounded, patch_timed}
+use Rattle.psy_gen.proofs.Patches.{then_one, then_operator, stmts_more, places_more, loops_more, to_first, to_second, to_turn, behind_one, behind_expr, behind_stmts, patch_if, patch_if_else, patch_bounded, patch_timed}
 use Rattle.psy_gen.proofs.Small.{stmts_left}
 use Rattle.psy_gen.proofs.statements.+emit_stmt.Goals as goal
 

@@ -2,6 +2,7 @@
 use Rattle.std.proofs.Common.{◌≡◌, ◌⊎◌, ℕ, ◌<◌, List, [], ◌∷◌, ◌++◌, All, length, length-append, get_or, Err, IfErr, ap, sym, subst, inl, inr, arith, rules}
 use Rattle.std.proofs.lemmas.Option.{slice_get_within, get_or_from_slice_get}
 use Rattle.std.proofs.lemmas.List.Elements.{All-push}
+use Rattle.psy_lists.proofs.lemmas.Places.{each_more}
 use Rattle.psy_tree.specs.declared.unit.Unit.{Unit}
 use Rattle.psy_meaning.specs.Graph.{PassesEdges, PassesNodes}
 use Rattle.psy_meaning.specs.RingSizes.{agent_timing}
@@ -11,7 +12,6 @@ use Rattle.psy_graph.specs.declared.fault.GraphFault.TheVariants.{Nodes, Edges, 
 use Rattle.psy_graph.specs.declared.graph.Graph.{Graph}
 use Rattle.psy_graph.specs.Graphs.{HasGraphBy, HaveGraphsBeforeBy, IsCauseBy}
 use Rattle.psy_graph.specs.Faults.{IsFaultOf}
-use Rattle.psy_graph.proofs.Timings.{each_more}
 use Rattle.psy_graph.proofs.agents.build_by.Goals as goal
 
 -- A fault of an agent before which all have graphs is the cause.
@@ -38,7 +38,7 @@ returns-in_err-graph_of-clause-cause c =
 pub agents-preserved : goal.agents-preserved
 agents-preserved c =
     let unit = c.args.unit.now in
-    let old = c.agents.graphs in let new = c.push.new.graphs in
+    let old = c.agents.graphs in let new = c.push.new.list in
     let graph = c.in_ok-graph_of.field-0 in
     let pushed : new ≡ old ++ graph ∷ [] = c.in_ok-push.ensures in
     let count : length new ≡ length (old ++ graph ∷ []) = ap length pushed in

@@ -1,7 +1,8 @@
 -- What is left of the proof of `agents::graph_of`.
-use Rattle.std.proofs.Common.{◌≡◌, ◌⊎◌, ◌<◌, List, [], ℕ, length, get_or, Result, Ok, Err, IfOk, sym, ap, subst, ◌∙◌, inl, inr, arith}
+use Rattle.std.proofs.Common.{◌≡◌, ◌⊎◌, ◌<◌, List, [], ℕ, length, get_or, sym, ap, subst, ◌∙◌, inl, inr, arith}
 use Rattle.std.proofs.lemmas.List.{get_or_default}
 use Rattle.std.proofs.lemmas.Result.{IfErr-weaker, IfOk-weaker}
+use Rattle.psy_lists.proofs.lemmas.Results.{if_both}
 use Rattle.psy_clock.specs.declared.clock.Clock.{Clock}
 use Rattle.psy_tree.specs.declared.unit.AgentDecl.{AgentDecl}
 use Rattle.psy_tree.specs.declared.unit.Point.{Point}
@@ -39,10 +40,6 @@ told c =
     ∙ ap (λ xs. timing unit.clocks xs c.as_slice-5.result.now) points
     ∙ ap (timing unit.clocks (agent_at unit number).points) follows
 
-both : {T E : Type 0} (r : Result T E) (P Q : T → Type 0) → IfOk r P → IfOk r Q → IfOk r (λ y. P y × Q y)
-both (Ok y) P Q p q = (p, q)
-both (Err e) P Q p q = tt
-
 pub graph_by-requires : goal.graph_by-requires
 graph_by-requires c = subst IsTimed (sym (told (goal.at.graph_by-requires c).After-as_slice-5)) (timed_for c.args.unit.now c.args.ways.now c.requires.text c.requires.ways c.args.number c.requires.number)
 
@@ -51,7 +48,7 @@ returns-clause-graph c =
     let t = timing c.as_slice-3.result.now c.as_slice-4.result.now c.as_slice-5.result.now in
     let same = told (goal.at.returns-clause-graph c).After-as_slice-5 in
     IfOk-weaker c.graph_by.result (λ graph. IsGraphOf t graph × IsSmall graph) (HasGraphBy c.args.unit.now c.args.ways.now.nexts c.args.number) (λ graph h. (subst (λ k. IsGraphOf k graph) same h.0, h.1))
-    (both c.graph_by.result (IsGraphOf t) IsSmall c.graph_by.ensures.graph c.graph_by.ensures.small)
+    (if_both c.graph_by.result (IsGraphOf t) IsSmall c.graph_by.ensures.graph c.graph_by.ensures.small)
 
 pub returns-clause-cause : goal.returns-clause-cause
 returns-clause-cause c =

@@ -2,7 +2,7 @@
 use Rattle.std.proofs.Common.{ap, ◌∙◌, arith}
 use Rattle.std.proofs.Math.Nat.{pos_of_dvd_of_pos}
 use Rattle.psy_graph.specs.Steps.{joined}
-use Rattle.psy_graph.proofs.Cycles.{joined_by}
+use Rattle.psy_graph.proofs.lemmas.Cycles.{joined_by}
 use Rattle.psy_graph.proofs.cycle.common_multiple.Goals as goal
 
 pub nonzero_div-result : goal.nonzero_div-result

@@ -3,7 +3,7 @@ use Rattle.std.proofs.Common.{◌≡◌, ◌+◌, ◌-◌, ◌≤◌, map, take,
 use Rattle.std.proofs.lemmas.List.{take_all}
 use Rattle.psy_meaning.specs.Graph.{IsLeastCommonMultiple}
 use Rattle.psy_graph.specs.Steps.{timing_by, joined}
-use Rattle.psy_graph.proofs.Cycles.{least_nil}
+use Rattle.psy_graph.proofs.lemmas.Cycles.{least_nil}
 use Rattle.psy_graph.proofs.Periods.{period_of, multiple_more, modulus_near, modulus_far}
 use Rattle.psy_graph.proofs.cycle.modulus.Goals as goal
 

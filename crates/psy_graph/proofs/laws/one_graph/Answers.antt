@@ -1,9 +1,10 @@
 -- What is left of the proof of `laws::one_graph`.
 use Rattle.std.proofs.Common.{refl, sym, subst, slice_index_or}
 use Rattle.std.proofs.lemmas.Option.{slice_get-get_or}
+use Rattle.psy_lists.proofs.lemmas.Places.{there}
 use Rattle.psy_meaning.specs.Timing.{timing_of}
 use Rattle.psy_graph.proofs.ByNexts.{by_nexts, cause_of, of_text}
-use Rattle.psy_graph.proofs.Causes.{there, same_graphs, graphs_apart, same_cause, graphs_or_cause}
+use Rattle.psy_graph.proofs.Causes.{same_graphs, graphs_apart, same_cause, graphs_or_cause}
 use Rattle.psy_graph.specs.Graphs.{IsTimed}
 use Rattle.psy_graph.proofs.EdgesKept.{edges_kept}
 use Rattle.psy_graph.proofs.NearGraphs.{graph_near}

@@ -1,7 +1,7 @@
 -- What is left of the proof of `laws::deeds`.
 use Rattle.std.proofs.lemmas.List.Elements.{All-contains}
 use Rattle.psy_code.specs.declared.code.Code.{Code}
-use Rattle.psy_history.specs.Executors.{agent_code_at}
+use Rattle.psy_meaning.specs.CodeWays.{agent_code_at}
 use Rattle.psy_history.specs.History.{history}
 use Rattle.psy_history.proofs.OutboxSizes.{has_place}
 use Rattle.psy_history.proofs.RunActions.{AreRunLaws}

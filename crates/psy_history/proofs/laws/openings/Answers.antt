@@ -1,10 +1,10 @@
 -- What is left of the proof of `laws::openings`.
 use Rattle.std.proofs.Common.{◌≡◌, ℕ, zero, suc, ◌≤◌, true, false, Some, refl, sym, ap, ◌∙◌, inl, inr, arith}
+use Rattle.psy_lists.proofs.lemmas.Members.{get_or_holds}
 use Rattle.psy_clock.specs.Dates.{IsClock}
 use Rattle.psy_history.specs.Actions.{clock_of, next_of, variable_of}
 use Rattle.psy_history.specs.Rings.{ring_of}
 use Rattle.psy_history.proofs.ClockDates.{AreCounted}
-use Rattle.psy_history.proofs.Members.{get_or_holds}
 use Rattle.psy_history.proofs.NextStarts.{next_late}
 use Rattle.psy_history.proofs.OpenedBuffers.{none_early, queue_begins, ring_begins}
 use Rattle.psy_history.proofs.OpenedRuns.{opened_run}

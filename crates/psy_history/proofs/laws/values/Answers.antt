@@ -1,11 +1,11 @@
 -- What is left of the proof of `laws::values`.
 use Rattle.std.proofs.lemmas.List.Elements.{All-nil}
+use Rattle.psy_lists.proofs.lemmas.Members.{get_or_holds}
 use Rattle.psy_history.specs.Actions.{variable_of}
 use Rattle.psy_history.specs.History.{history}
 use Rattle.psy_meaning.specs.Units.{IsOfText}
 use Rattle.psy_tree.specs.declared.unit.Unit.{Unit as Whole}
 use Rattle.psy_history.specs.Compiled.{stated}
-use Rattle.psy_history.proofs.Members.{get_or_holds}
 use Rattle.psy_history.proofs.Seeing.{Fits, MessageFits, by_owner, messages_fit, zero_fits}
 use Rattle.psy_history.proofs.StatedHistories.{AreTextLaws, all_fit}
 use Rattle.psy_history.proofs.laws.values.Goals as goal

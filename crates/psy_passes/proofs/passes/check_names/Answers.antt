@@ -1,10 +1,12 @@
 -- What is left of the proof of `passes::check_names`.
 use Rattle.std.proofs.Common.{◌≡◌, ◌∙◌, rules, sym, ap, subst, None, Some, Err, arith}
+use Rattle.psy_passes.proofs.lemmas.ToldApart.{differ_by, same_by}
+use Rattle.psy_lists.proofs.lemmas.Results.{err_is}
 use Rattle.psy_passes.specs.declared.scan_fault.ScanFault.TheVariants as scan
 use Rattle.psy_passes.specs.NameChecks.{Looks}
 use Rattle.psy_passes.specs.Outcomes.{IsOfNames, since}
-use Rattle.psy_passes.proofs.Sinces.{err_is, halted_changed, names_only, not_unlisted, unread_is}
-use Rattle.psy_passes.proofs.Surveyed.{changed_end, differ_by, name_unlisted, names_listed, same_by}
+use Rattle.psy_passes.proofs.Sinces.{halted_changed, names_only, not_unlisted, unread_is}
+use Rattle.psy_passes.proofs.Surveyed.{changed_end, name_unlisted, names_listed}
 use Rattle.psy_passes.proofs.passes.check_names.Goals as goal
 
 pub returns-in-Err-clause-unlisted : goal.returns-in-Err-clause-unlisted

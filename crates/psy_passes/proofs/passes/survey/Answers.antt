@@ -1,7 +1,7 @@
 -- What is left of the proof of `passes::survey`.
 use Rattle.std.proofs.Common.{◌∙◌, Err, ap, sym, subst}
+use Rattle.psy_lists.proofs.lemmas.Results.{err_is}
 use Rattle.psy_passes.specs.Outcomes.{IsOfForm, IsOfNames}
-use Rattle.psy_passes.proofs.Sinces.{err_is}
 use Rattle.psy_passes.proofs.passes.survey.Goals as goal
 
 pub returns-in-Err-clause-unlisted : goal.returns-in-Err-clause-unlisted

@@ -1,10 +1,12 @@
 -- What is left of the proof of `passes::write_told`.
 use Rattle.std.proofs.Common.{◌≡◌, ◌∙◌, sym, ap, subst, Err}
+use Rattle.psy_passes.proofs.lemmas.ToldApart.{differ_by, same_by}
+use Rattle.psy_lists.proofs.lemmas.Results.{err_is}
 use Rattle.psy_passes.specs.declared.scan_fault.ScanFault.TheVariants as scan
 use Rattle.psy_passes.specs.NameChecks.{RefusesOther, TellsListed}
 use Rattle.psy_passes.specs.Outcomes.{IsOfTelling, since}
-use Rattle.psy_passes.proofs.Sinces.{err_is, halted_since, telling_only, unread_is, unwritten_is}
-use Rattle.psy_passes.proofs.Surveyed.{changed_end, differ_by, same_by, told_all, told_end, told_halt, told_none}
+use Rattle.psy_passes.proofs.Sinces.{halted_since, telling_only, unread_is, unwritten_is}
+use Rattle.psy_passes.proofs.Surveyed.{changed_end, told_all, told_end, told_halt, told_none}
 use Rattle.psy_passes.proofs.passes.write_told.Goals as goal
 
 pub returns-in-Err-clause-begun : goal.returns-in-Err-clause-begun

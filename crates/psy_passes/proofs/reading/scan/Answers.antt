@@ -1,10 +1,11 @@
 -- What is left of the proof of `reading::scan`.
 use Rattle.std.proofs.Common.{◌≡◌, ◌≢◌, ◌∙◌, sym, ap, subst, refl, true, false, [], ◌++◌, Ok, length, arith}
+use Rattle.psy_lists.proofs.lemmas.Results.{ok_err}
 use Rattle.psy_notes.specs.Fronts.{NoLine}
 use Rattle.psy_notes.specs.Texts.{text_of}
 use Rattle.psy_passes.specs.declared.scan_fault.ScanFault.TheVariants as fault
 use Rattle.psy_passes.specs.Runs.{IsOutside}
-use Rattle.psy_passes.proofs.Ends.{first_told, halts_first, halts_outside, if_err, ok_err, reads_end, reads_on, reads_piece, unfinished_halts}
+use Rattle.psy_passes.proofs.Ends.{first_told, halts_first, halts_outside, if_err, reads_end, reads_on, reads_piece, unfinished_halts}
 use Rattle.psy_passes.proofs.Kept.{starts}
 use Rattle.psy_passes.proofs.reading.scan.Goals as goal
 

@@ -4,7 +4,7 @@ use Rattle.std.specs.List.Sorted.{IsPartitionPoint}
 use Rattle.std.proofs.lemmas.List.Sorted.{IsPartitionPoint-from_clause}
 use Rattle.psy_base.specs.declared.message.Message.{Message}
 use Rattle.psy_queue.specs.Order.{comes_before}
-use Rattle.psy_queue.proofs.Orders.{parted_before}
+use Rattle.psy_queue.proofs.lemmas.Orders.{parted_before}
 use Rattle.psy_queue.proofs.queue.place_of.Goals as goal
 
 not_true : (b : Bool) → not b ≡ true → b ≡ false

@@ -3,7 +3,7 @@ use Rattle.std.proofs.Common.{◌≡◌, true, false, leb, List, sym, rules}
 use Rattle.std.specs.List.Sorted.{IsPartitionedBy, IsPartitionPoint}
 use Rattle.std.proofs.lemmas.List.Sorted.{IsPartitionPoint-from_clause, IsPartitionedBy-leb}
 use Rattle.psy_base.specs.declared.message.Message.{Message}
-use Rattle.psy_queue.proofs.Orders.{visible_rises, length_parted}
+use Rattle.psy_queue.proofs.lemmas.Orders.{visible_rises, length_parted}
 use Rattle.psy_queue.proofs.queue.seen_in.Goals as goal
 
 pub returns-clause-number : goal.returns-clause-number

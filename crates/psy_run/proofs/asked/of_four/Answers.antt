@@ -1,7 +1,7 @@
 -- What is left of the proof of `asked::of_four`.
 use Rattle.std.proofs.Common.{[], ◌∷◌, ap, codes}
+use Rattle.psy_lists.proofs.lemmas.Texts.{same_text}
 use Rattle.psy_run.specs.Asked.{asks_run_with_inputs}
-use Rattle.psy_run.proofs.AskedLemmas.{same_text}
 use Rattle.psy_run.proofs.asked.of_four.Goals as goal
 
 pub returns-then-eq : goal.returns-then-eq

@@ -1,7 +1,8 @@
 -- What is left of the proof of `asked::of_three`.
 use Rattle.std.proofs.Common.{[], ◌∷◌, ap, codes}
+use Rattle.psy_lists.proofs.lemmas.Texts.{same_text}
 use Rattle.psy_run.specs.Asked.{asks_run, asks_check, asks_trial}
-use Rattle.psy_run.proofs.AskedLemmas.{same_text, untried}
+use Rattle.psy_run.proofs.AskedLemmas.{untried}
 use Rattle.psy_run.proofs.asked.of_three.Goals as goal
 
 pub returns-then-eq : goal.returns-then-eq

@@ -1,7 +1,8 @@
 -- What is left of the proof of `asked::of_two`.
 use Rattle.std.proofs.Common.{[], ◌∷◌, ap, codes}
+use Rattle.psy_lists.proofs.lemmas.Texts.{same_text}
 use Rattle.psy_run.specs.Asked.{asks_graph, asks_make}
-use Rattle.psy_run.proofs.AskedLemmas.{same_text, unmade}
+use Rattle.psy_run.proofs.AskedLemmas.{unmade}
 use Rattle.psy_run.proofs.asked.of_two.Goals as goal
 
 pub returns-then-eq : goal.returns-then-eq

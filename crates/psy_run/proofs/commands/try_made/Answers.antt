@@ -6,7 +6,7 @@ use Rattle.psy_run.specs.Outcome.{halts_memory}
 use Rattle.psy_run.specs.Services.{Tried}
 use Rattle.psy_run.specs.Supplies.{supply_of}
 use Rattle.psy_run.proofs.Courses.{halts_exit}
-use Rattle.psy_run.proofs.PlanLemmas.{are_no_inputs}
+use Rattle.psy_history.proofs.lemmas.NoInputs.{are_no_inputs}
 use Rattle.psy_run.proofs.ToldLemmas.{trial_untranslated, trial_unsupplied, trial_unpaced, trial_gives, can_try}
 use Rattle.psy_run.proofs.commands.try_made.Goals as goal
 

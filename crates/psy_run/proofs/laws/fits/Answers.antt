@@ -5,7 +5,7 @@ use Rattle.psy_meaning.specs.BufferSizes.{AreSizes}
 use Rattle.psy_meaning.specs.KnownWays.{Listed, OfText}
 use Rattle.psy_run.specs.Services.{no_inputs}
 use Rattle.psy_run.proofs.FittingPlans.{fits_by}
-use Rattle.psy_run.proofs.PlanLemmas.{are_no_inputs}
+use Rattle.psy_history.proofs.lemmas.NoInputs.{are_no_inputs}
 use Rattle.psy_run.proofs.laws.fits.Goals as goal
 
 pub returns : goal.returns

@@ -1,9 +1,9 @@
 -- What is left of the proof of `rates::lines_of_all`.
 use Rattle.std.proofs.Common.{◌≡◌, ◌∙◌, ap, sym, subst, ℕ, ◌<◌, [], ◌∷◌, length, length-append, get_or, slice_get, Some, arith}
+use Rattle.psy_lists.proofs.lemmas.Places.{read_is, each_pushed}
 use Rattle.psy_graph.specs.declared.graph.Graph.{Graph}
 use Rattle.psy_rate.specs.declared.line.Rate.{Rate}
 use Rattle.psy_run.specs.Tables.{IsLine}
-use Rattle.psy_run.proofs.RowLemmas.{each_pushed, read_is}
 use Rattle.psy_run.proofs.rates.lines_of_all.Goals as goal
 
 pub graphs-preserved : goal.graphs-preserved

@@ -7,7 +7,7 @@ use Rattle.psy_run.specs.declared.refusal.Stop.TheVariants.{Memory}
 use Rattle.psy_run.specs.Outcome.{halts_memory}
 use Rattle.psy_run.specs.Steps.{reading, stating}
 use Rattle.psy_run.proofs.Courses.{halts_exit, halts_first, halts_last, gives_last}
-use Rattle.psy_run.proofs.PlanLemmas.{are_no_inputs}
+use Rattle.psy_history.proofs.lemmas.NoInputs.{are_no_inputs}
 use Rattle.psy_run.proofs.LongFiles.{took_exit, took_for_memory, took_last, stating_never_long}
 use Rattle.psy_run.proofs.FaultLemmas.{unfailed_exit, unfailed_last}
 use Rattle.psy_run.proofs.told.inputs_of.Goals as goal

@@ -7,7 +7,7 @@ pub returns-clause-answered : goal.returns-clause-answered
 returns-clause-answered g c = ends_answered _ _ _ _ _ _ _ c.answer.ensures.ends
 
 pub returns-clause-complete : goal.returns-clause-complete
-returns-clause-complete g c = ends_complete c.one_answer.ensures _ _ _ _ _ _ _ c.answer.ensures.ends
+returns-clause-complete g c = ends_complete c.one_answer.ensures.same _ _ _ _ _ _ _ c.answer.ensures.ends
 
 pub returns-clause-done : goal.returns-clause-done
 returns-clause-done g c = ends_done _ _ _ _ _ _ _ c.answer.ensures.ends
@@ -45,4 +45,4 @@ pub returns-clause-none_left : goal.returns-clause-none_left
 returns-clause-none_left g c = ends_none_left _ _ _ _ _ _ _ c.answer.ensures.ends
 
 pub returns-clause-headline : goal.returns-clause-headline
-returns-clause-headline g c files unit nexts sizes until lists said = ends_headline c.one_answer.ensures c.bounded.ensures _ _ _ _ _ _ _ c.answer.ensures.ends files (Ran unit nexts sizes until lists said)
+returns-clause-headline g c files unit nexts sizes until lists said = ends_headline c.one_answer.ensures.same c.bounded.ensures _ _ _ _ _ _ _ c.answer.ensures.ends files (Ran unit nexts sizes until lists said)

@@ -1,7 +1,8 @@
 -- What is left of the proof of `served::serve`.
 use Rattle.std.proofs.Common.{Global, List, ℕ, inl, inr, map, refl, string_bytes, sym, ◌∙◌, take}
 use Rattle.std.proofs.Math.Nat.{le_trans}
-use Rattle.psy_serve.proofs.Growing.{behind_of, explained_behind, grew_on, no_refusal, rose_before}
+use Rattle.psy_run.proofs.lemmas.Growth.{rose_before, Grew-trans}
+use Rattle.psy_serve.proofs.Growing.{behind_of, explained_behind, no_refusal}
 use Rattle.psy_serve.specs.Behind.{IsTold}
 use Rattle.psy_serve.proofs.served.serve.Goals as goal
 
@@ -15,7 +16,7 @@ returns-in-Ok-clause-answered g c a b d =
       said.1,
       explained_behind _ _ _ c.answered-status.result said.0 behind.0 behind.0 _ _ _ refusal
           c.answered-status.ensures.shelf.1 c.requires.fresh said.2 behind.1 behind.2,
-      grew_on _ _ _ _ _ said.2 behind.1,
+      Grew-trans _ _ _ _ _ said.2 behind.1,
     )
 
 pub returns-in-Ok-clause-complete : goal.returns-in-Ok-clause-complete
@@ -23,7 +24,7 @@ returns-in-Ok-clause-complete g c files status text told answers calm still =
     let behind = c.in-Ok.ensures.explained in
     elim (c.answered-status.ensures.complete files status text told answers (λ rose. calm (le_trans rose c.in-Ok.ensures.shelf.0))
     (λ rose. still (le_trans rose c.in-Ok.ensures.counted))) [
-      | inl said ↦ inl (said.0, (behind.0, grew_on _ _ _ _ _ said.1 behind.1))
+      | inl said ↦ inl (said.0, (behind.0, Grew-trans _ _ _ _ _ said.1 behind.1))
       | inr full ↦ inr full
     ]
 
@@ -45,7 +46,7 @@ returns-in-Err-clause-cut_short g c four =
       said.1,
       explained_behind _ _ _ c.answered-status.result said.0 behind.0 (take behind.1 behind.0) _ _ _ refusal
           c.answered-status.ensures.shelf.1 c.requires.fresh said.2 behind.2 behind.3,
-      grew_on _ _ _ _ _ said.2 behind.2,
+      Grew-trans _ _ _ _ _ said.2 behind.2,
     ))
 
 pub returns-in-Err-tell_unread-clause-cut_short : goal.returns-in-Err-tell_unread-clause-cut_short
@@ -59,5 +60,5 @@ returns-in-Err-tell_unread-clause-cut_short g c four =
       behind.1,
       said.1,
       behind_of (λ (line : List ℕ). IsTold words line behind.0) _ _ _ _ _ c.requires.fresh said.2 behind.2 behind.3,
-      grew_on _ _ _ _ _ said.2 behind.2,
+      Grew-trans _ _ _ _ _ said.2 behind.2,
     ))

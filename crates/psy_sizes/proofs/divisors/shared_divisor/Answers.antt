@@ -1,5 +1,5 @@
 -- What is left of the proof of `divisors::shared_divisor`.
-use Rattle.std.proofs.Common.{◌+◌, ◌/◌, ◌*◌, ◌<◌, get_or, length, sym, subst, arith}
+use Rattle.std.proofs.Common.{◌+◌, ◌/◌, ◌*◌, ◌<◌, get_or, length, sym, subst, subst₂, arith}
 use Rattle.std.specs.Int.{IsGcd}
 use Rattle.std.proofs.Math.Nat.{pos_of_dvd_of_pos}
 use Rattle.std.proofs.lemmas.Nat.Gcd.{le_of_dvd}
@@ -18,7 +18,8 @@ more c =
     let named : (get_or points at no_point).clock < length clocks = c.requires.named at no_point c.points-test.true in
     let nothing : Clock = record { period = 0; first = 0 } in
     let own : IsGcd (period_of clocks (get_or points at no_point)) c.args.period c.common_divisor-common.result =
-    subst (λ k. IsGcd k.period c.args.period c.common_divisor-common.result) (get_or_default clocks (get_or points at no_point).clock nothing no_clock named) c.common_divisor-common.ensures in
+    subst (λ k. IsGcd k.period c.args.period c.common_divisor-common.result) (get_or_default clocks (get_or points at no_point).clock nothing no_clock named)
+    (subst₂ (λ n p. IsGcd n p c.common_divisor-common.result) c.from.ensures c.from-in-points.ensures c.common_divisor-common.ensures) in
     subst (λ ns. Shares ns c.args.period (c.points.shared / c.common_divisor.result * c.common_divisor-common.result)) (sym (periods_more clocks points at (omega arith) c.points-test.true))
     (shares_more (periods_before clocks points at) c.args.period c.points.shared (period_of clocks (get_or points at no_point)) c.common_divisor-common.result c.common_divisor.result c.requires.some
     (own_some clocks points at c.requires.clocks c.requires.named c.points-test.true) c.points.invariant own c.common_divisor.ensures)
@@ -37,3 +38,6 @@ points-preserved c = more c
 
 pub returns : goal.returns
 returns c = shared_by c.args.clocks.now c.args.points.now c.points.point c.args.period c.points.shared c.points-test.false c.points.invariant
+
+pub overflow_cast-result : goal.overflow_cast-result
+overflow_cast-result c = let few = le_of_dvd c.requires.some c.points.invariant.is.1 in omega (arith, few, c.requires.period)

@@ -2,9 +2,9 @@
 use Rattle.std.proofs.Common.{◌≡◌, ℕ, [], ◌∷◌, ◌++◌, length, length-append, ap, subst, arith}
 use Rattle.std.proofs.lemmas.Option.{get_or_from_slice_get, slice_get_within}
 use Rattle.psy_base.specs.Extremes.{IsGreatest}
+use Rattle.psy_lists.proofs.lemmas.Places.{each_more}
 use Rattle.psy_meaning.specs.KnownWays.{Listed}
 use Rattle.psy_meaning.specs.QueueSizes.{HasSendsTo}
-use Rattle.psy_sizes.proofs.RingsOf.{each_more}
 use Rattle.psy_sizes.proofs.outboxes.outboxes.Goals as goal
 
 pub agents-preserved : goal.agents-preserved

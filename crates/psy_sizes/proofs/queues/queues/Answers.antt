@@ -3,12 +3,12 @@ use Rattle.std.proofs.Common.{◌≡◌, ◌⊎◌, ℕ, ◌<◌, ◌≤◌, [],
 use Rattle.std.specs.List.{All}
 use Rattle.std.proofs.lemmas.List.Elements.{All-push}
 use Rattle.psy_base.specs.declared.limits.TheConstants.{QUEUE}
+use Rattle.psy_lists.proofs.lemmas.Places.{each_more}
 use Rattle.psy_meaning.specs.KnownWays.{Listed}
 use Rattle.psy_sizes.specs.declared.fault.SizeFault.{SizeFault}
 use Rattle.psy_sizes.specs.declared.fault.SizeFault.TheVariants.{Memory}
 use Rattle.psy_sizes.specs.Queues.{IsKeptQueue, IsQueueFault}
 use Rattle.psy_sizes.proofs.QueueOf.{all_queues, first_fault}
-use Rattle.psy_sizes.proofs.RingsOf.{each_more}
 use Rattle.psy_sizes.proofs.queues.queues.Goals as goal
 
 pub returns-in_err-queue-clause-cause : goal.returns-in_err-queue-clause-cause
@@ -31,7 +31,7 @@ pub streams-preserved : goal.streams-preserved
 streams-preserved c =
     let unit = c.args.unit.now in
     let old = c.streams.sizes in
-    let new = c.push.new.sizes in
+    let new = c.push.new.list in
     let size = c.in_ok-queue.field-0 in
     let pushed : new ≡ old ++ size ∷ [] = c.in_ok-push.ensures in
     let count : length new ≡ length (old ++ size ∷ []) = ap length pushed in

@@ -3,11 +3,11 @@ use Rattle.std.proofs.Common.{◌≡◌, [], ◌∷◌, ◌++◌, map, length, l
 use Rattle.std.specs.List.{All}
 use Rattle.std.proofs.lemmas.List.Elements.{All-push}
 use Rattle.psy_base.specs.declared.edge.Edge.{Edge}
+use Rattle.psy_lists.proofs.lemmas.Places.{each_more}
 use Rattle.psy_meaning.specs.KnownWays.{Listed, Ways}
 use Rattle.psy_meaning.specs.QueueSizes.{IsSendEdge}
 use Rattle.psy_window.specs.Windows.{IsEdge}
 use Rattle.psy_graph.specs.Graphs.{spot_of}
-use Rattle.psy_sizes.proofs.RingsOf.{each_more}
 use Rattle.psy_sizes.proofs.Tables.{IsSentAt, all_sent, no_edge}
 use Rattle.psy_sizes.proofs.spreads.send_edges.Goals as goal
 
@@ -19,7 +19,7 @@ edges-preserved c =
     let nodes = c.args.graph.now.nodes in
     let edges = c.args.graph.now.edges in
     let old = c.edges.sent in
-    let new = c.push.new.edges in
+    let new = c.push.new.list in
     let sent = c.send_edge.result in
     let k = c.edges.edge-index in
     let kept = c.edges.invariant in

@@ -4,11 +4,12 @@ use Rattle.std.specs.List.{All}
 use Rattle.std.proofs.lemmas.Result.{IfOk-weaker, IfErr-weaker}
 use Rattle.psy_base.specs.declared.limits.TheConstants.{WINDOW_CELLS}
 use Rattle.psy_base.specs.Paths.{FitsFirstFree, IsGreatestWeight}
+use Rattle.psy_lists.proofs.lemmas.Results.{if_both}
 use Rattle.psy_meaning.specs.KnownWays.{Listed}
 use Rattle.psy_meaning.specs.RingSizes.{agent_timing}
 use Rattle.psy_sizes.proofs.Actions.{nodes_within}
 use Rattle.psy_sizes.proofs.ReadLists.{cut, sends_agent, sends_points}
-use Rattle.psy_sizes.proofs.SpreadOf.{if_both, spread_is}
+use Rattle.psy_sizes.proofs.SpreadOf.{spread_is}
 use Rattle.psy_sizes.proofs.Tables.{some_node}
 use Rattle.psy_sizes.proofs.WindowOf.{table_fits, table_passes}
 use Rattle.psy_sizes.proofs.spreads.spread.Goals as goal

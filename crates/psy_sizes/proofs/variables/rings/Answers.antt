@@ -3,6 +3,7 @@ use Rattle.std.proofs.Common.{◌≡◌, ◌⊎◌, ℕ, ◌<◌, ◌≤◌, Lis
 use Rattle.std.specs.List.{All}
 use Rattle.std.proofs.lemmas.List.Elements.{All-push, All-weaker}
 use Rattle.psy_base.specs.declared.limits.TheConstants.{RING}
+use Rattle.psy_lists.proofs.lemmas.Places.{each_more}
 use Rattle.psy_tree.specs.declared.unit.Unit.{Unit as Whole}
 use Rattle.psy_meaning.specs.KnownWays.{Listed, Ways}
 use Rattle.psy_meaning.specs.RingSizes.{IsRingSize}
@@ -10,7 +11,6 @@ use Rattle.psy_sizes.specs.declared.fault.SizeFault.{SizeFault}
 use Rattle.psy_sizes.specs.declared.fault.SizeFault.TheVariants.{LargeRing, Memory}
 use Rattle.psy_sizes.specs.Faults.{IsFaultBy}
 use Rattle.psy_sizes.proofs.AllRings.{AreRingsBefore, all_rings, first_large}
-use Rattle.psy_sizes.proofs.RingsOf.{each_more}
 use Rattle.psy_sizes.proofs.variables.rings.Goals as goal
 
 -- The sizes that were found are those of the variables so far.
@@ -41,7 +41,7 @@ pub variables-preserved : goal.variables-preserved
 variables-preserved c =
     let unit = c.args.unit.now in
     let old = c.variables.sizes in
-    let new = c.push.new.sizes in
+    let new = c.push.new.list in
     let size = c.in_ok-ring.field-0 in
     let pushed : new ≡ old ++ size ∷ [] = c.in_ok-push.ensures in
     let count : length new ≡ length (old ++ size ∷ []) = ap length pushed in

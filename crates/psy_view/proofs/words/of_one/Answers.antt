@@ -1,7 +1,7 @@
 -- What is left of the proof of `words::of_one`.
 use Rattle.std.proofs.Common.{[], ◌∷◌, ap, codes}
+use Rattle.psy_lists.proofs.lemmas.Texts.{same_text}
 use Rattle.psy_view.specs.Asked.{for_help, for_version}
-use Rattle.psy_view.proofs.AskedLemmas.{same_text}
 use Rattle.psy_view.proofs.words.of_one.Goals as goal
 
 pub returns-then-eq : goal.returns-then-eq

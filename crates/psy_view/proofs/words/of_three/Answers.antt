@@ -1,8 +1,8 @@
 -- What is left of the proof of `words::of_three`.
 use Rattle.std.proofs.Common.{[], ◌∷◌, MatchOption, sym, subst, codes}
+use Rattle.psy_lists.proofs.lemmas.Texts.{same_text}
 use Rattle.psy_view.specs.Asked.{Asks, AskNoView}
 use Rattle.psy_view.specs.Reading.{request_of}
-use Rattle.psy_view.proofs.AskedLemmas.{same_text}
 use Rattle.psy_view.proofs.words.of_three.Goals as goal
 
 pub returns-then-eq : goal.returns-then-eq

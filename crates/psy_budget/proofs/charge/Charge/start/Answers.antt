@@ -1,8 +1,8 @@
 -- What is left of the proof of `charge::Charge::start`.
 use Rattle.std.proofs.Common.{◌≡◌, ℕ, ◌+◌, ◌-◌, subst, arith}
+use Rattle.psy_budget.proofs.lemmas.Stalls.{none_stalled}
 use Rattle.psy_budget.specs.Charges.{stalled}
 use Rattle.psy_budget.specs.Standing.{AreSplit}
-use Rattle.psy_budget.proofs.Splits.{none_stalled}
 use Rattle.psy_budget.proofs.charge.Charge.start.Goals as goal
 
 pub invariant_of-self : goal.invariant_of-self

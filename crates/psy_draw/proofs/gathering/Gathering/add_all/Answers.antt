@@ -1,9 +1,10 @@
 -- What is left of the proof of `gathering::Gathering::add_all`.
 use Rattle.std.proofs.Common.{map, take, ◌∙◌, arith}
 use Rattle.std.specs.Prelude.{string_bytes}
+use Rattle.psy_lists.proofs.lemmas.Searches.{all_at}
 use Rattle.psy_draw.specs.Gathering.{Gathers, is_known}
 use Rattle.psy_draw.specs.Homes.{housed_of}
-use Rattle.psy_draw.proofs.Fed.{all_at, of_all, one_more}
+use Rattle.psy_draw.proofs.Fed.{of_all, one_more}
 use Rattle.psy_draw.proofs.gathering.Gathering.add_all.Goals as goal
 
 pub loop-note-preserved : goal.loop-note-preserved

@@ -1,7 +1,7 @@
 -- What is left of the proof of `names::Names::has`.
 use Rattle.std.proofs.Common.{ap, sym, ◌∙◌, bytes_eq}
 use Rattle.std.specs.List.{list_any}
-use Rattle.psy_draw.proofs.NameTables.{list_any-map}
+use Rattle.psy_lists.proofs.lemmas.Searches.{list_any-map}
 use Rattle.psy_draw.proofs.names.Names.has.Goals as goal
 
 pub returns : goal.returns

@@ -1,9 +1,9 @@
 -- What is left of the proof of `plan::Plan::add_stream`.
 use Rattle.std.proofs.Common.{ap, ◌∙◌}
+use Rattle.psy_lists.proofs.lemmas.Tests.{both}
 use Rattle.psy_draw.specs.Gathering.{asks_stream}
 use Rattle.psy_draw.specs.Sources.{names_in}
 use Rattle.psy_draw.proofs.Eachs.{itself}
-use Rattle.psy_draw.proofs.Fed.{both}
 use Rattle.psy_draw.proofs.plan.Plan.add_stream.Goals as goal
 
 pub returns-in-StreamEnd-clause-lanes : goal.returns-in-StreamEnd-clause-lanes

@@ -1,9 +1,9 @@
 -- What is left of the proof of `plan::Plan::add_variable`.
 use Rattle.std.proofs.Common.{ap, ◌∙◌}
+use Rattle.psy_lists.proofs.lemmas.Tests.{both}
 use Rattle.psy_draw.specs.Gathering.{asks_variable}
 use Rattle.psy_draw.specs.Sources.{names_in}
 use Rattle.psy_draw.proofs.Eachs.{itself}
-use Rattle.psy_draw.proofs.Fed.{both}
 use Rattle.psy_draw.proofs.plan.Plan.add_variable.Goals as goal
 
 pub returns-in-VariableEnd-clause-lanes : goal.returns-in-VariableEnd-clause-lanes

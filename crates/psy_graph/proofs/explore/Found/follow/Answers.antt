@@ -3,11 +3,11 @@ use Rattle.std.proofs.Common.{◌≡◌, ℕ, ◌<◌, length, get_or, sym, ap, 
 use Rattle.std.specs.List.{Contains}
 use Rattle.std.proofs.lemmas.List.{get_or_read}
 use Rattle.std.proofs.lemmas.List.Elements.{All-contains, Contains-get_or}
+use Rattle.psy_graph.proofs.lemmas.MayStarts.{may_point}
 use Rattle.psy_meaning.specs.Timing.{following}
 use Rattle.psy_graph.specs.declared.place.Place.{Place}
 use Rattle.psy_graph.specs.Steps.{timing_by}
 use Rattle.psy_graph.specs.Places.{IsMetAt, follower}
-use Rattle.psy_graph.proofs.Reached.{may_point}
 use Rattle.psy_graph.proofs.Finding.{worked, done_more, all_done}
 use Rattle.psy_graph.proofs.explore.Found.follow.Goals as goal
 use Rattle.psy_graph.proofs.explore.Found.follow.Goals.{After-index-from}

@@ -1,10 +1,11 @@
 -- What is left of the proof of `engine::Engine::give`.
-use Rattle.std.proofs.Common.{◌≡◌, ℕ, ◌+◌, ◌-◌, ◌*◌, ◌<◌, ◌≤◌, List, Bool, true, false, not, Option, Some, None, length, get_or, if◌then◌else◌, map, slice_get, slice_set, ℤ, Vec, Global, refl, sym, ap, ◌∙◌, subst, arith}
+use Rattle.std.proofs.Common.{◌≡◌, ℕ, ◌+◌, ◌-◌, ◌*◌, ◌<◌, ◌≤◌, List, Bool, true, Option, Some, None, length, get_or, if◌then◌else◌, map, slice_get, slice_set, ℤ, Vec, Global, refl, sym, ap, ◌∙◌, subst, arith}
 use Rattle.std.proofs.lemmas.List.{length-map, length-set}
 use Rattle.std.proofs.lemmas.Option.{same_Some, slice_get_read, slice_get_within}
 use Rattle.std.specs.List.{All, AllPairs}
 use Rattle.std.specs.Vec.{with_item}
 use Rattle.psy_base.specs.declared.limits.TheConstants.{RING}
+use Rattle.psy_lists.proofs.lemmas.Tests.{is_off, is_on}
 use Rattle.psy_dates.specs.declared.seat.Seat.{Seat}
 use Rattle.psy_dates.specs.Outboxes.{Outboxed}
 use Rattle.psy_dates.specs.Standing.{dates_done}
@@ -27,14 +28,6 @@ use Rattle.psy_kernel.proofs.RingViews.{few_places}
 use Rattle.psy_dates.proofs.lemmas.Sets.{get_set_same}
 use Rattle.psy_kernel.proofs.engine.Engine.give.Goals.{In-None, In-Some, After-index-server, After-order_by-order, After-choose-chosen, After-go_on-lasted, After-count_to, After-count_to-in-Some, After-drop_chosen}
 use Rattle.psy_kernel.proofs.engine.Engine.give.Goals as goal
-
-is_off : (b : Bool) → not b ≡ true → b ≡ false
-is_off true e = sym e
-is_off false e = refl
-
-is_on : (b : Bool) → not b ≡ false → b ≡ true
-is_on true e = refl
-is_on false e = sym e
 
 -- ---- the processor
 

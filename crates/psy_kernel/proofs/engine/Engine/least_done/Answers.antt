@@ -3,11 +3,11 @@ use Rattle.std.proofs.Common.{◌≡◌, ◌<◌, ℕ, Some, get_or, length, map
 use Rattle.std.proofs.lemmas.Bool.{cases_eq, cases_lt}
 use Rattle.std.proofs.lemmas.List.{length-map}
 use Rattle.std.proofs.lemmas.Option.{get_or_from_slice_get, same_Some, slice_get_read, slice_get_within}
+use Rattle.psy_lists.proofs.lemmas.Places.{mapped}
 use Rattle.psy_kernel.specs.Engines.{EngineState}
 use Rattle.psy_kernel.specs.Standing.{state_of}
 use Rattle.psy_kernel.specs.declared.engine.Engine.TheInside.{Inside}
 use Rattle.psy_kernel.specs.declared.engine.Server.{Server}
-use Rattle.psy_kernel.proofs.Engines.{mapped}
 use Rattle.psy_kernel.proofs.engine.Engine.least_done.Goals as goal
 
 -- The cycles of a processor that is read

@@ -1,7 +1,7 @@
 -- What is left of the proof of `engine::boot::runners_of`.
 use Rattle.std.proofs.Common.{◌≡◌, [], ◌∷◌, ◌++◌, length, length-append, ap, sym, subst, arith}
+use Rattle.psy_lists.proofs.lemmas.Places.{each_pushed}
 use Rattle.psy_kernel.specs.Starting.{AreNew, IsNewRunner}
-use Rattle.psy_dates.proofs.lemmas.Placed.{each_pushed}
 use Rattle.psy_kernel.proofs.engine.boot.runners_of.Goals as goal
 
 pub agents-preserved : goal.agents-preserved

@@ -1,7 +1,7 @@
 -- What is left of the proof of `names::Names::place`.
 use Rattle.std.proofs.Common.{bytes_eq, sym, ap, ◌∙◌}
 use Rattle.std.specs.List.{list_any, position}
-use Rattle.psy_passes.proofs.NameTables.{list_any-map, position-map}
+use Rattle.psy_lists.proofs.lemmas.Searches.{list_any-map, position-map}
 use Rattle.psy_passes.proofs.names.Names.place.Goals as goal
 
 pub returns-clause-place : goal.returns-clause-place

@@ -8,7 +8,7 @@ use Rattle.psy_queue.specs.Expiring.{ExpiryRises}
 use Rattle.psy_queue.specs.Order.{Queued, AreInOrder, comes_before, put_in_order}
 use Rattle.psy_queue.specs.Standing.{queued}
 use Rattle.psy_queue.proofs.Expiries.{rises_inserted}
-use Rattle.psy_queue.proofs.Orders.{insert_is, in_order_placed}
+use Rattle.psy_queue.proofs.lemmas.Orders.{insert_is, in_order_placed}
 use Rattle.psy_queue.proofs.queue.Queue.enter.Goals as goal
 use Rattle.psy_queue.proofs.queue.Queue.enter.Goals.{After-insert}
 

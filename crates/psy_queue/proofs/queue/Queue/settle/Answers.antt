@@ -6,7 +6,7 @@ use Rattle.psy_base.specs.declared.message.Message.{Message}
 use Rattle.psy_queue.specs.Expiring.{ExpiryRises}
 use Rattle.psy_queue.specs.Order.{AreInOrder, comes_before}
 use Rattle.psy_queue.proofs.Expiries.{rises_dropped}
-use Rattle.psy_queue.proofs.Orders.{fewer_settled, in_order_dropped}
+use Rattle.psy_queue.proofs.lemmas.Orders.{fewer_settled, in_order_dropped}
 use Rattle.psy_queue.proofs.queue.Queue.settle.Goals as goal
 
 pub drop_expired-requires : goal.drop_expired-requires

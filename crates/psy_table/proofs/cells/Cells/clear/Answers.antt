@@ -1,7 +1,8 @@
 -- What is left of the proof of `cells::Cells::clear`.
 use Rattle.std.proofs.Common.{◌≡◌, ◌++◌, [], drop, length, map, replicate, take, vec_len, ap, ◌∙◌, arith}
+use Rattle.psy_lists.proofs.lemmas.Places.{written_back}
 use Rattle.psy_table.specs.CellsState.{CellsState, cells_of}
-use Rattle.psy_table.proofs.CellLemmas.{empty_each, same_cells, written_back}
+use Rattle.psy_table.proofs.CellLemmas.{empty_each, same_cells}
 use Rattle.psy_table.proofs.cells.Cells.clear.Goals as goal
 
 pub returns : goal.returns

@@ -1,7 +1,8 @@
 -- What is left of the proof of `cells::Cells::put`.
 use Rattle.std.proofs.Common.{◌++◌, drop, is_some, length, map, refl, set, sym, take, ap, ◌∙◌, arith}
+use Rattle.psy_lists.proofs.lemmas.Places.{written_back}
 use Rattle.psy_table.specs.CellsState.{CellsState}
-use Rattle.psy_table.proofs.CellLemmas.{cells_changed, cells_unchanged, written_back}
+use Rattle.psy_table.proofs.CellLemmas.{cells_changed, cells_unchanged}
 use Rattle.psy_table.proofs.cells.Cells.put.Goals as goal
 
 pub returns-in_ok-put_at-in-Some : goal.returns-in_ok-put_at-in-Some

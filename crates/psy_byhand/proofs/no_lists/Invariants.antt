@@ -1,6 +1,0 @@
--- What each loop of `no_lists` keeps.
-use Rattle.std.proofs.Common.{◌≡◌, [], map, take}
-use Rattle.psy_byhand.proofs.no_lists.Given as goal
-
-abbrev pub invariant-variables : goal.invariant-variables
-invariant-variables l = record { lists : l.lists ≡ map (λ v. []) (take l.index l.unit.variables) }

@@ -1,0 +1,2 @@
+-- Lemmas that crates above may cite, by subject.
+pub mod Growth
