@@ -5,8 +5,6 @@
 pub mod laws;
 mod operators;
 mod table;
-#[cfg(test)]
-mod tests;
 mod width;
 pub mod widths;
 

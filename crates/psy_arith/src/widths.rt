@@ -150,6 +150,3 @@ pub fn operate1(width: Width, op: Op1, a: i64) -> i64
         Op1::Not => i64::from(a == 0),
     }
 }
-
-#[cfg(test)]
-mod tests;

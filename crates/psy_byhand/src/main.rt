@@ -2,8 +2,10 @@
 //! texts of their runs.
 #![tactic(auto)]
 
-ghost use Rattle.std.specs.Prelude.{◌≡◌, [], map, IfOk};
+ghost use Rattle.std.specs.Prelude.{◌≡◌, ◌*◌, ◌≤◌, [], map, IfOk};
+ghost use Rattle.psy_base.specs.declared.limits.TheConstants.{QUANTUM};
 ghost use Rattle.psy_dates.specs.Plans.{IsPlan};
+ghost use Rattle.psy_meaning.specs.Units.{Within};
 
 mod counting;
 mod parts;
@@ -39,20 +41,29 @@ fn run<S: Sink>(alloc: Global, plan: Plan, out: &mut S) -> Option<()>
     run_loop(&mut kernel, out).ok()
 }
 
+// Runs the counter with so many cycles a tick.
+fn run_counter<S: Sink>(alloc: Global, quantum: u32, out: &mut S) -> Option<()>
+    requires quantum { Within 1 QUANTUM quantum }
+    requires supplied { 40 ≤ 10 * quantum }
+{
+    match counter(alloc, quantum, 40, 30) {
+        Ok(plan) => run(alloc, plan, out),
+        Err(_) => None,
+    }
+}
+
+fn run_relay<S: Sink>(alloc: Global, out: &mut S) -> Option<()> {
+    match relay(alloc, 100, 40, 40) {
+        Ok(plan) => run(alloc, plan, out),
+        Err(_) => None,
+    }
+}
+
 // Runs the counter with ample cycles, and with just as many as may be demanded; then the relay.
 fn run_all<S: Sink>(alloc: Global, out: &mut S) -> Option<()> {
-    let Ok(ample) = counter(alloc, 100, 40, 30) else {
-        return None;
-    };
-    let Ok(tight) = counter(alloc, 4, 40, 30) else {
-        return None;
-    };
-    let Ok(both) = relay(alloc, 100, 40, 40) else {
-        return None;
-    };
-    run(alloc, ample, out)?;
-    run(alloc, tight, out)?;
-    run(alloc, both, out)
+    run_counter(alloc, 100, out)?;
+    run_counter(alloc, 4, out)?;
+    run_relay(alloc, out)
 }
 
 fn main(rt: HostRuntime) -> ExitCode {

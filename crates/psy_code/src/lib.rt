@@ -8,8 +8,6 @@ mod instr;
 pub mod laws;
 mod look;
 mod rows;
-#[cfg(test)]
-mod tests;
 
 pub use code::{AgentCode, Code, CopyInit, FunctionCode};
 pub use instr::{Binary, Instr};

@@ -5,8 +5,6 @@
 mod demand;
 mod graphs;
 mod lists;
-#[cfg(test)]
-mod tests;
 
 pub use demand::{Verdict, feasible};
 pub use graphs::criterion;

@@ -124,38 +124,3 @@ impl<'a, R: Files> Shelf for FileShelf<'a, R> {
         }
     }
 }
-
-#[cfg(test)]
-mod tests {
-    use super::*;
-    use psy_base::limits;
-    use std::test::Fail;
-
-    #[test]
-    fn each_error_of_the_system_is_a_fault(rt: HostRuntime) -> Result<(), Fail> {
-        fs::write(&rt, "fetched.txt", "text")?;
-        let mut shelf = FileShelf::new(&rt);
-        let most = limits::FILE_BYTES;
-        let cases = [
-            ("fetched.txt", most, Ok(4), 0, 4),
-            ("fetched.txt", 4, Ok(4), 0, 4),
-            ("fetched.txt", 3, Err(FetchFault::TooLong), 0, 4),
-            ("absent.txt", most, Err(FetchFault::Failed), 1, 0),
-            ("/dev/null", 0, Ok(0), 1, 0),
-            ("/dev/zero", most, Err(FetchFault::TooLong), 1, most + 1),
-            (".", most, Err(FetchFault::Failed), 2, 0),
-        ];
-        for (name, most, want, faults, taken) in cases {
-            let fetched = shelf.fetch_most(rt.alloc(), name, most);
-            assert_eq!(rt; fetched.map(|bytes| bytes.len()), want, "{most} of {name}");
-            assert_eq!(rt; shelf.faults, faults, "after {name}");
-            assert_eq!(rt; shelf.taken, taken, "taken of {name}");
-        }
-        assert_eq!(rt;
-            shelf.fetch(rt.alloc(), "fetched.txt")?.as_slice(),
-            b"text".as_slice()
-        );
-        fs::remove_file(&rt, "fetched.txt")?;
-        Ok(())
-    }
-}

@@ -13,8 +13,6 @@ mod shelf_map;
 mod sink;
 mod sink_vec;
 mod std_sink;
-#[cfg(test)]
-mod tests;
 
 pub use clean_shelf::CleanShelf;
 pub use clean_sink::CleanSink;

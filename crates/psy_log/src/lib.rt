@@ -11,8 +11,6 @@ mod note;
 mod refusal;
 mod set;
 mod summary;
-#[cfg(test)]
-mod tests;
 mod write;
 
 pub use form::{Field, Form, Sort};

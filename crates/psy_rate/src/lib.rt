@@ -7,8 +7,6 @@ mod rates;
 mod rounds;
 mod rows;
 mod supply;
-#[cfg(test)]
-mod tests;
 
 pub use line::{Rate, SCALE};
 pub use rates::certify;

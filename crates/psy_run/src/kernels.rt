@@ -17,7 +17,9 @@ use std::alloc::Global;
 /// None where the text is refused, or a processor can't supply what its agents may demand, or memory is wanting.
 pub fn kernel_of(alloc: Global, text: &Vec<u8>, until: u32) -> Option<Kernel>
     requires { length text.now.items ≤ FILE_BYTES }
-    ensures booted { IfSome result (λ kernel. kernel ≡ booted kernel.plan (no_inputs kernel.plan.unit) no_script) }
+    ensures booted { IfSome result (λ kernel. kernel ≡ booted kernel.plan kernel.inputs kernel.script) }
+    ensures alone { IfSome result (λ kernel. kernel.inputs ≡ no_inputs kernel.plan.unit) }
+    ensures unscripted { IfSome result (λ kernel. kernel.script ≡ no_script) }
     ensures program { IfSome result (λ kernel. (translating text.now.items).gives kernel.plan.unit) }
     ensures its_until { IfSome result (λ kernel. kernel.plan.until ≡ until) }
 {

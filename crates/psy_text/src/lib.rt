@@ -8,8 +8,6 @@ pub mod laws;
 pub mod line;
 mod numeral;
 pub mod run;
-#[cfg(test)]
-mod tests;
 pub mod whole;
 pub mod word;
 pub mod write;

@@ -8,8 +8,6 @@ pub mod laws;
 mod layout;
 mod span;
 mod table;
-#[cfg(test)]
-mod tests;
 mod windows;
 
 pub use fault::WindowFault;

@@ -1,6 +1,7 @@
 //! A run for 100,000,000,000 cycles, nearly all of which are idle: how long its text is and how it ends. A kernel that went through them one by one
 //! wouldn't be done in hours. The command has a limit far below, so no case can ask for it.
 use psy_door::SinkVec;
+use psy_kernel::Kernel;
 use psy_run::{kernel_of, run_loop};
 use std::alloc::Global;
 
@@ -14,14 +15,19 @@ const LAST: u32 = 100_000;
 /// How many bytes the last line of a date and the summary have.
 const END: usize = 63;
 
+// What a kernel's run writes, in room for all of it. None where memory ran out.
+fn run_of(alloc: Global, kernel: &mut Kernel) -> Option<SinkVec> {
+    let room = 10 * LAST as usize;
+    let mut out = SinkVec::new(alloc, room, room, Vec::new(alloc)).ok()?;
+    run_loop(kernel, &mut out).ok()?;
+    Some(out)
+}
+
 /// What its run writes. None where memory ran out.
 pub fn written(alloc: Global) -> Option<SinkVec> {
     let text = Vec::from_slice(alloc, COUNTER).ok()?;
     let mut kernel = kernel_of(alloc, &text, LAST)?;
-    let room = 10 * LAST as usize;
-    let mut out = SinkVec::new(alloc, room, room, Vec::new(alloc)).ok()?;
-    run_loop(&mut kernel, &mut out).ok()?;
-    Some(out)
+    run_of(alloc, &mut kernel)
 }
 
 /// The last line of a date and the summary, of what the run wrote.

@@ -3,9 +3,9 @@ ghost use Rattle.std.specs.Prelude.{◌≤◌, length};
 ghost use Rattle.psy_base.specs.declared.limits.TheConstants.{WORD_BYTES};
 ghost use Rattle.psy_log.specs.Forms.{name_of};
 
-use crate::{Line, Note, WriteFault, write_all_of};
 use psy_arith::Trap;
 use psy_door::SinkVec;
+use psy_log::{Line, Note, WriteFault, write_all_of};
 use std::alloc::Global;
 use std::process::Abort;
 use std::test::Fail;

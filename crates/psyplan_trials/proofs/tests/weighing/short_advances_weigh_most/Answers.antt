@@ -1,9 +1,9 @@
--- What is left of the proof of `tests::short_advances_weigh_most`.
+-- What is left of the proof of `tests::weighing::short_advances_weigh_most`.
 use Rattle.std.proofs.Common.{List, [], ◌∷◌, All, arith}
 use Rattle.std.proofs.lemmas.List.Elements.{All-cons}
 use Rattle.psy_base.specs.declared.edge.Edge.{Edge}
 use Rattle.psy_window.specs.Windows.{IsEdge}
-use Rattle.psy_window.proofs.tests.short_advances_weigh_most.Goals as goal
+use Rattle.psyplan_trials.proofs.tests.weighing.short_advances_weigh_most.Goals as goal
 
 -- An edge before others
 before : (e : Edge) (es : List Edge) → IsEdge 3 e → All (IsEdge 3) es → All (IsEdge 3) (e ∷ es)

@@ -1,6 +1,6 @@
 //! Demands worked out by hand.
-use super::*;
 use psy_base::Items;
+use psy_demand::{Verdict, feasible};
 use std::test::Fail;
 
 /// By hand, of an agent that starts an action of budget 8 at each second tick and has two ticks for it.

@@ -1,7 +1,7 @@
--- What is left of the proof of `tests::two_clocks`.
+-- What is left of the proof of `tests::rates::two_clocks`.
 use Rattle.std.proofs.Common.{[], ◌∷◌}
 use Rattle.std.proofs.lemmas.List.Elements.{All-nil, All-cons}
-use Rattle.psy_rate.proofs.tests.two_clocks.Goals as goal
+use Rattle.psyplan_trials.proofs.tests.rates.two_clocks.Goals as goal
 use Rattle.psy_window.specs.Windows.{IsEdge}
 
 pub certify-requires-clause-edges : goal.certify-requires-clause-edges

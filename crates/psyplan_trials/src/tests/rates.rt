@@ -4,8 +4,8 @@ ghost use Rattle.std.specs.Prelude.{◌^◌, ◌<◌, ◌≤◌};
 ghost use Rattle.psy_base.specs.declared.limits.TheConstants.{BUDGET};
 ghost use Rattle.psy_window.specs.Windows.{IsEdge};
 
-use super::*;
 use psy_base::Edge;
+use psy_rate::{Rate, SCALE, certify, horizon};
 use std::test::Fail;
 
 /// An edge of a graph of five nodes.

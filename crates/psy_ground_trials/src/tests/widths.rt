@@ -1,12 +1,31 @@
 //! The operators at each width, with its corners.
-use super::{apply1, apply2, narrow, narrowed, operate1, operate2};
-use crate::{Op1, Op2, Trap, Width};
+use psy_arith::widths::{apply1, apply2, narrow, narrowed, operate1, operate2};
+use psy_arith::{Op1, Op2, Trap, Width};
+use std::process::Abort;
+
+/// An operator of two operands with both of them, and its value.
+type Two = (Op2, i64, i64, Result<i64, Trap>);
+
+/// An operator of one operand with it, and its value.
+type One = (Op1, i64, i64);
+
+fn compare_two(rt: &impl Abort, width: Width, cases: &[Two]) {
+    for &(op, a, b, want) in cases {
+        assert_eq!(rt; operate2(width, op, a, b), want, "{op:?} of {a} and {b}");
+    }
+}
+
+fn compare_one(rt: &impl Abort, width: Width, cases: &[One]) {
+    for &(op, a, want) in cases {
+        assert_eq!(rt; operate1(width, op, a), want, "{op:?} of {a}");
+    }
+}
 
 #[test]
 fn two_operands_of_eight_bits(rt: HostRuntime) {
-    const MIN: i8 = i8::MIN;
-    const MAX: i8 = i8::MAX;
-    let cases = [
+    const MIN: i64 = i8::MIN as i64;
+    const MAX: i64 = i8::MAX as i64;
+    const CASES: [Two; 46] = [
         (Op2::Mul, MIN, -1, Ok(MIN)),
         (Op2::Mul, MAX, MAX, Ok(1)),
         (Op2::Mul, 16, 16, Ok(0)),
@@ -54,17 +73,14 @@ fn two_operands_of_eight_bits(rt: HostRuntime) {
         (Op2::OrOr, 0, MIN, Ok(1)),
         (Op2::OrOr, 0, 0, Ok(0)),
     ];
-    for (op, a, b, want) in cases {
-        let value = apply2::<8>(op, i64::from(a), i64::from(b));
-        assert_eq!(rt; value, want.map(i64::from), "{op:?} of {a} and {b}");
-    }
+    compare_two(&rt, Width::W8, &CASES);
 }
 
 #[test]
 fn one_operand_of_eight_bits(rt: HostRuntime) {
-    const MIN: i8 = i8::MIN;
-    const MAX: i8 = i8::MAX;
-    let cases = [
+    const MIN: i64 = i8::MIN as i64;
+    const MAX: i64 = i8::MAX as i64;
+    const CASES: [One; 15] = [
         (Op1::Neg, 0, 0),
         (Op1::Neg, 1, -1),
         (Op1::Neg, -1, 1),
@@ -81,17 +97,14 @@ fn one_operand_of_eight_bits(rt: HostRuntime) {
         (Op1::Not, MIN, 0),
         (Op1::Not, MAX, 0),
     ];
-    for (op, a, want) in cases {
-        let value = apply1::<8>(op, i64::from(a));
-        assert_eq!(rt; value, i64::from(want), "{op:?} of {a}");
-    }
+    compare_one(&rt, Width::W8, &CASES);
 }
 
 #[test]
 fn two_operands_of_sixteen_bits(rt: HostRuntime) {
-    const MIN: i16 = i16::MIN;
-    const MAX: i16 = i16::MAX;
-    let cases = [
+    const MIN: i64 = i16::MIN as i64;
+    const MAX: i64 = i16::MAX as i64;
+    const CASES: [Two; 45] = [
         (Op2::Mul, MIN, -1, Ok(MIN)),
         (Op2::Mul, MAX, MAX, Ok(1)),
         (Op2::Mul, 256, 256, Ok(0)),
@@ -138,17 +151,14 @@ fn two_operands_of_sixteen_bits(rt: HostRuntime) {
         (Op2::OrOr, 0, MIN, Ok(1)),
         (Op2::OrOr, 0, 0, Ok(0)),
     ];
-    for (op, a, b, want) in cases {
-        let value = apply2::<16>(op, i64::from(a), i64::from(b));
-        assert_eq!(rt; value, want.map(i64::from), "{op:?} of {a} and {b}");
-    }
+    compare_two(&rt, Width::W16, &CASES);
 }
 
 #[test]
 fn one_operand_of_sixteen_bits(rt: HostRuntime) {
-    const MIN: i16 = i16::MIN;
-    const MAX: i16 = i16::MAX;
-    let cases = [
+    const MIN: i64 = i16::MIN as i64;
+    const MAX: i64 = i16::MAX as i64;
+    const CASES: [One; 15] = [
         (Op1::Neg, 0, 0),
         (Op1::Neg, 1, -1),
         (Op1::Neg, -1, 1),
@@ -165,17 +175,14 @@ fn one_operand_of_sixteen_bits(rt: HostRuntime) {
         (Op1::Not, MIN, 0),
         (Op1::Not, MAX, 0),
     ];
-    for (op, a, want) in cases {
-        let value = apply1::<16>(op, i64::from(a));
-        assert_eq!(rt; value, i64::from(want), "{op:?} of {a}");
-    }
+    compare_one(&rt, Width::W16, &CASES);
 }
 
 #[test]
 fn two_operands_of_thirty_two_bits(rt: HostRuntime) {
-    const MIN: i32 = i32::MIN;
-    const MAX: i32 = i32::MAX;
-    let cases = [
+    const MIN: i64 = i32::MIN as i64;
+    const MAX: i64 = i32::MAX as i64;
+    const CASES: [Two; 45] = [
         (Op2::Mul, MIN, -1, Ok(MIN)),
         (Op2::Mul, MAX, MAX, Ok(1)),
         (Op2::Mul, 65_536, 65_536, Ok(0)),
@@ -222,17 +229,14 @@ fn two_operands_of_thirty_two_bits(rt: HostRuntime) {
         (Op2::OrOr, 0, MIN, Ok(1)),
         (Op2::OrOr, 0, 0, Ok(0)),
     ];
-    for (op, a, b, want) in cases {
-        let value = apply2::<32>(op, i64::from(a), i64::from(b));
-        assert_eq!(rt; value, want.map(i64::from), "{op:?} of {a} and {b}");
-    }
+    compare_two(&rt, Width::W32, &CASES);
 }
 
 #[test]
 fn one_operand_of_thirty_two_bits(rt: HostRuntime) {
-    const MIN: i32 = i32::MIN;
-    const MAX: i32 = i32::MAX;
-    let cases = [
+    const MIN: i64 = i32::MIN as i64;
+    const MAX: i64 = i32::MAX as i64;
+    const CASES: [One; 15] = [
         (Op1::Neg, 0, 0),
         (Op1::Neg, 1, -1),
         (Op1::Neg, -1, 1),
@@ -249,17 +253,14 @@ fn one_operand_of_thirty_two_bits(rt: HostRuntime) {
         (Op1::Not, MIN, 0),
         (Op1::Not, MAX, 0),
     ];
-    for (op, a, want) in cases {
-        let value = apply1::<32>(op, i64::from(a));
-        assert_eq!(rt; value, i64::from(want), "{op:?} of {a}");
-    }
+    compare_one(&rt, Width::W32, &CASES);
 }
 
 #[test]
 fn two_operands_of_sixty_four_bits(rt: HostRuntime) {
     const MIN: i64 = i64::MIN;
     const MAX: i64 = i64::MAX;
-    let cases = [
+    const CASES: [Two; 45] = [
         (Op2::Mul, MIN, -1, Ok(MIN)),
         (Op2::Mul, MAX, MAX, Ok(1)),
         (Op2::Mul, 4_294_967_296, 4_294_967_296, Ok(0)),
@@ -306,16 +307,14 @@ fn two_operands_of_sixty_four_bits(rt: HostRuntime) {
         (Op2::OrOr, 0, MIN, Ok(1)),
         (Op2::OrOr, 0, 0, Ok(0)),
     ];
-    for (op, a, b, want) in cases {
-        assert_eq!(rt; apply2::<64>(op, a, b), want, "{op:?} of {a} and {b}");
-    }
+    compare_two(&rt, Width::W64, &CASES);
 }
 
 #[test]
 fn one_operand_of_sixty_four_bits(rt: HostRuntime) {
     const MIN: i64 = i64::MIN;
     const MAX: i64 = i64::MAX;
-    let cases = [
+    const CASES: [One; 15] = [
         (Op1::Neg, 0, 0),
         (Op1::Neg, 1, -1),
         (Op1::Neg, -1, 1),
@@ -332,9 +331,19 @@ fn one_operand_of_sixty_four_bits(rt: HostRuntime) {
         (Op1::Not, MIN, 0),
         (Op1::Not, MAX, 0),
     ];
-    for (op, a, want) in cases {
-        assert_eq!(rt; apply1::<64>(op, a), want, "{op:?} of {a}");
-    }
+    compare_one(&rt, Width::W64, &CASES);
+}
+
+#[test]
+fn a_width_may_be_a_parameter(rt: HostRuntime) {
+    assert_eq!(rt; apply2::<8>(Op2::Add, 127, 1), Ok(-128));
+    assert_eq!(rt; apply2::<16>(Op2::Shl, 1, 17), Ok(2));
+    assert_eq!(rt; apply2::<32>(Op2::Rem, 7, 0), Err(Trap::Divide));
+    assert_eq!(rt; apply2::<64>(Op2::Div, i64::MIN, -1), Ok(i64::MIN));
+    assert_eq!(rt; apply1::<8>(Op1::Neg, -128), -128);
+    assert_eq!(rt; apply1::<16>(Op1::Flip, 0), -1);
+    assert_eq!(rt; apply1::<32>(Op1::Not, 7), 0);
+    assert_eq!(rt; apply1::<64>(Op1::Neg, i64::MIN), i64::MIN);
 }
 
 #[test]

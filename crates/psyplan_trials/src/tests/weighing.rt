@@ -3,8 +3,8 @@ ghost use Rattle.std.specs.Prelude.{◌<◌, ◌≤◌};
 ghost use Rattle.psy_base.specs.declared.limits.TheConstants.{BUDGET};
 ghost use Rattle.psy_window.specs.Windows.{IsEdge};
 
-use super::*;
 use psy_base::Edge;
+use psy_window::{Span, WindowFault, weights};
 use std::test::Fail;
 
 /// An edge of a graph of one point: it leads from node 0 to node 0.

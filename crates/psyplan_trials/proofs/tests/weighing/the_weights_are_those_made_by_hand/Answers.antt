@@ -1,9 +1,9 @@
--- What is left of the proof of `tests::the_weights_are_those_made_by_hand`.
+-- What is left of the proof of `tests::weighing::the_weights_are_those_made_by_hand`.
 use Rattle.std.proofs.Common.{[], ◌∷◌, All, arith}
 use Rattle.std.proofs.lemmas.List.Elements.{All-cons}
 use Rattle.psy_base.specs.declared.edge.Edge.{Edge}
 use Rattle.psy_window.specs.Windows.{IsEdge}
-use Rattle.psy_window.proofs.tests.the_weights_are_those_made_by_hand.Goals as goal
+use Rattle.psyplan_trials.proofs.tests.weighing.the_weights_are_those_made_by_hand.Goals as goal
 
 alone : (e : Edge) → IsEdge 1 e → All (IsEdge 1) (e ∷ [])
 alone e edge = All-cons (IsEdge 1) e [] edge (λ k d small. absurd (omega (arith, small)))

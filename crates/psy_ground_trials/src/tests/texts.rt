@@ -1,9 +1,9 @@
 //! Small texts, read and written.
-use crate::front::{name, number, short, value};
-use crate::line::cut_line;
-use crate::whole;
-use crate::word::{self, Cut, cut_word};
-use crate::write::{add_labelled, add_value, joined};
+use psy_text::front::{name, number, short, value};
+use psy_text::line::cut_line;
+use psy_text::whole;
+use psy_text::word::{self, Cut, cut_word};
+use psy_text::write::{add_labelled, add_value, joined};
 use std::test::Fail;
 
 const NAME: &[u8] = b"abcdefghijklmnopqrstuvwxyz_01234";

@@ -1,5 +1,5 @@
 //! The operators on numbers worked out by hand, and tables.
-use crate::{Op1, Op2, Row, Table, Trap, apply1, apply2};
+use psy_arith::{Op1, Op2, Row, Table, Trap, apply1, apply2};
 
 const MIN: i32 = i32::MIN;
 

@@ -1,6 +1,6 @@
 //! Bytes and rows of instructions.
-use crate::{Binary, Instr, instructions};
 use psy_arith::{Op1, Op2, Row, Width};
+use psy_code::{Binary, Instr, instructions};
 
 #[test]
 fn an_instruction_has_its_byte_and_its_row(rt: HostRuntime) {

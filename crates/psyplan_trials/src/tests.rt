@@ -1,0 +1,5 @@
+//! What was worked out by hand of graphs, weights and lines.
+
+mod demands;
+mod rates;
+mod weighing;
