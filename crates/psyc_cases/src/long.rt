@@ -1,5 +1,8 @@
 //! A run for 100,000,000,000 cycles, nearly all of which are idle: how long its text is and how it ends. A kernel that went through them one by one
 //! wouldn't be done in hours. The command has a limit far below, so no case can ask for it.
+ghost use Rattle.std.specs.Prelude.{◌≡◌};
+ghost use Rattle.psy_kernel.specs.Progress.{booted};
+
 use psy_door::SinkVec;
 use psy_kernel::Kernel;
 use psy_run::{kernel_of, run_loop};
@@ -16,7 +19,9 @@ const LAST: u32 = 100_000;
 const END: usize = 63;
 
 // What a kernel's run writes, in room for all of it. None where memory ran out.
-fn run_of(alloc: Global, kernel: &mut Kernel) -> Option<SinkVec> {
+fn run_of(alloc: Global, kernel: &mut Kernel) -> Option<SinkVec>
+    requires booted { kernel.old ≡ booted kernel.old.plan kernel.old.inputs kernel.old.script }
+{
     let room = 10 * LAST as usize;
     let mut out = SinkVec::new(alloc, room, room, Vec::new(alloc)).ok()?;
     run_loop(kernel, &mut out).ok()?;
