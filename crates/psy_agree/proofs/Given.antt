@@ -1,9 +1,7 @@
 -- What a given service has: a program of a text, a date up to which it runs, and sizes; so what it writes can be told, and is read.
-use Rattle.std.proofs.Common.{◌≡◌, refl, sym, subst, ℕ, zero, suc, ◌*◌, ◌<◌, ◌≤◌, List, [], ◌∷◌, All, length, map, get_or, slice_get, Option, Some, None, ℤ, arith}
+use Rattle.std.proofs.Common.{◌≡◌, refl, sym, subst, ℕ, ◌*◌, ◌<◌, ◌≤◌, List, All, length, get_or, slice_get, Option, Some, None, ℤ, arith}
 use Rattle.std.specs.Prelude.{FitsSigned}
 use Rattle.std.specs.Int.{w32}
-use Rattle.std.proofs.lemmas.List.{length-map}
-use Rattle.std.proofs.lemmas.List.Elements.{All-nil}
 use Rattle.std.proofs.lemmas.Option.{slice_get-get_or, slice_get_within}
 use Rattle.psy_base.specs.declared.limits.TheConstants.{COST, FILE_BYTES, RUN, UNTIL}
 use Rattle.psy_base.specs.declared.message.Message.{Message}
@@ -20,7 +18,6 @@ use Rattle.psy_history.specs.Scheduled.{turns_by}
 use Rattle.psy_kernel.specs.Texts.{summary_of, text_of as lines_text}
 use Rattle.psy_make.specs.Text.{made_text}
 use Rattle.psy_history.specs.Actions.{System}
-use Rattle.psy_meaning.specs.Alike.{AllFit}
 use Rattle.psy_meaning.specs.KnownWays.{OfText}
 use Rattle.psy_meaning.specs.BufferSizes.{AreSizes}
 use Rattle.psy_history.specs.History.{history}

@@ -18,7 +18,8 @@ use Rattle.psy_notes.specs.Notes.{IsLong, IsShort}
 use Rattle.psy_notes.specs.Stands.{graph_begins}
 use Rattle.psy_notes.specs.Texts.{IsText, text_of}
 use Rattle.psy_tree.specs.declared.unit.AgentDecl.{AgentDecl}
-use Rattle.psy_run.specs.Texts.{agent_text, edge_text, graph_text, nodes_text}
+use Rattle.psy_kernel.specs.Texts.{text_of as lines_text}
+use Rattle.psy_run.specs.Texts as drawn
 use Rattle.psy_agree.proofs.GraphsLead.{AreNodeLines, IsEdgeLine, IsGraphLines, IsHead, IsNodeLine, graphs_read}
 use Rattle.psy_agree.proofs.RunNotes.{named}
 use Rattle.psy_agree.proofs.RunsLead.{where_true}
@@ -50,23 +51,25 @@ graph_notes _ _ _ = []
 
 -- ---- their lines
 
-nodes_same : (costs : List ℕ) (number : ℕ) (nodes : List Node) → text_of (node_notes costs number nodes) ≡ nodes_text costs number nodes
+nodes_same : (costs : List ℕ) (number : ℕ) (nodes : List Node) → text_of (node_notes costs number nodes) ≡ lines_text (drawn.node_lines costs number nodes)
 nodes_same costs number [] = refl
 nodes_same costs number (node ∷ nodes) = ap (λ rest. line_of (node_note costs number node) ++ rest) (nodes_same costs (number + 1) nodes)
 
-edges_same : (edges : List Edge) → text_of (map edge_note edges) ≡ flat_map edge_text edges
+edges_same : (edges : List Edge) → text_of (map edge_note edges) ≡ lines_text (drawn.edge_lines edges)
 edges_same [] = refl
-edges_same (edge ∷ edges) = ap (λ rest. edge_text edge ++ rest) (edges_same edges)
+edges_same (edge ∷ edges) = ap (λ rest. line_of (edge_note edge) ++ rest) (edges_same edges)
 
-agent_same : (agent : AgentDecl) (graph : Graph) (costs : List ℕ) → text_of (agent_notes agent graph costs) ≡ agent_text agent graph costs
+agent_same : (agent : AgentDecl) (graph : Graph) (costs : List ℕ) → text_of (agent_notes agent graph costs) ≡ lines_text (drawn.agent_lines agent graph costs)
 agent_same agent graph costs =
     ap (λ rest. line_of (head_note agent graph) ++ rest)
-    (flat_map-append line_of (node_notes costs 0 graph.nodes) (map edge_note graph.edges) ∙ (λ i. nodes_same costs 0 graph.nodes i ++ edges_same graph.edges i))
+    (flat_map-append line_of (node_notes costs 0 graph.nodes) (map edge_note graph.edges) ∙ (λ i. nodes_same costs 0 graph.nodes i ++ edges_same graph.edges i)
+    ∙ sym (flat_map-append (λ line. line) (drawn.node_lines costs 0 graph.nodes) (drawn.edge_lines graph.edges)))
 
-graphs_same : (agents : List AgentDecl) (graphs : List Graph) (costs : List (List ℕ)) → text_of (flat_map (λ notes. notes) (graph_notes agents graphs costs)) ≡ graph_text agents graphs costs
+graphs_same : (agents : List AgentDecl) (graphs : List Graph) (costs : List (List ℕ)) → text_of (flat_map (λ notes. notes) (graph_notes agents graphs costs)) ≡ drawn.graph_text agents graphs costs
 graphs_same (agent ∷ agents) (graph ∷ graphs) (list ∷ costs) =
     flat_map-append line_of (agent_notes agent graph list) (flat_map (λ notes. notes) (graph_notes agents graphs costs))
     ∙ (λ i. agent_same agent graph list i ++ graphs_same agents graphs costs i)
+    ∙ sym (flat_map-append (λ line. line) (drawn.agent_lines agent graph list) (drawn.graph_lines agents graphs costs))
 graphs_same [] graphs costs = refl
 graphs_same (agent ∷ agents) [] costs = refl
 graphs_same (agent ∷ agents) (graph ∷ graphs) [] = refl
@@ -167,7 +170,7 @@ few_lines (agent ∷ agents) (graph ∷ graphs) [] = omega arith
 
 -- What is drawn is read
 pub graphs_are_read : (agents : List AgentDecl) (graphs : List Graph) (costs : List (List ℕ)) → length agents ≤ AGENTS → AreTellableGraphs agents graphs costs
-    → (notes : List Note) × IsText graph_begins (graph_text agents graphs costs) notes
+    → (notes : List Note) × IsText graph_begins (drawn.graph_text agents graphs costs) notes
 graphs_are_read agents graphs costs few told =
     let all = graph_notes agents graphs costs in
     let notes = flat_map (λ notes. notes) all in

@@ -65,24 +65,3 @@ impl Hash for Text {
         self.bytes().hash(state);
     }
 }
-
-#[cfg(test)]
-mod tests {
-    use super::*;
-    use std::collections::HashMap;
-    use std::test::Fail;
-
-    #[test]
-    fn texts_of_the_same_bytes_are_one_key(rt: HostRuntime) -> Result<(), Fail> {
-        let clock = Text::from_bytes(rt.alloc(), b"clock")?;
-        let agent = Text::from_bytes(rt.alloc(), b"agent")?;
-        assert_eq!(rt; clock.bytes(), b"clock".as_slice());
-        assert!(rt; clock != agent);
-        let mut places = HashMap::new(rt.alloc());
-        places.insert(clock, 1u32)?;
-        places.insert(agent, 2u32)?;
-        let again = Text::from_bytes(rt.alloc(), b"clock")?;
-        assert_eq!(rt; places.get(&again).copied(), Some(1));
-        Ok(())
-    }
-}

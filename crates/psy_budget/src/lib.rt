@@ -5,7 +5,5 @@
 
 mod charge;
 pub mod laws;
-#[cfg(test)]
-mod tests;
 
 pub use charge::{Charge, Stall, Tick};

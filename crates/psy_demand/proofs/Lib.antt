@@ -1,4 +1,4 @@
 -- The lemmas of this crate, by subject.
-mod Sums
+mod OneMore
 mod Verdicts
 pub mod lemmas

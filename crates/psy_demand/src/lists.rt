@@ -21,16 +21,16 @@ fn passes_cells(graph: &Graph, top: u32) -> bool
     graph.nodes.len() as u64 * (u64::from(top) + 1) > WINDOW_CELLS
 }
 
-// Whether the table of some agent would.
-fn any_passes(graphs: &[Graph], top: u32) -> bool
+/// Whether the table of some agent would have too many cells.
+pub fn any_passes(graphs: &[Graph], top: u32) -> bool
     requires { All IsSmall graphs.now }
     ensures { IsTrue result ↔ Any (PassesCells top) graphs.now }
 {
     graphs.iter().any(|graph| passes_cells(graph, top))
 }
 
-// The demand of an agent over each length up to this one.
-fn weights_of(alloc: Global, graph: &Graph, top: u32) -> Result<Items<u64>, WindowFault>
+/// The demand of an agent over each length up to this one. `Cells` tells that its table would have too many cells.
+pub fn weights_of(alloc: Global, graph: &Graph, top: u32) -> Result<Items<u64>, WindowFault>
     requires edges { IsDrawn graph.now }
     requires small { IsSmall graph.now }
     ensures list { IfOk result (AreWeights top graph.now) }

@@ -207,7 +207,7 @@ module _ (instrs : List Instr) (from : ℕ) where
 -- ---- of a program's code
 
 -- How many points an agent has
-abbrev its_points : AgentDecl → ℕ
+abbrev pub its_points : AgentDecl → ℕ
 its_points a = length a.points
 
 pub most_below : (n : ℕ) (agents : List AgentDecl) → ((i : ℕ) (a : AgentDecl) → slice_get agents i ≡ Some a → length a.points ≤ n) → most_of (map its_points agents) ≤ n

@@ -16,6 +16,7 @@ mod FoundRows
 mod Gathered
 mod Greatest
 mod Homes
+mod Judged
 mod Layers
 mod Limits
 mod Lists

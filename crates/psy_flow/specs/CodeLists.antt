@@ -5,7 +5,8 @@ use Rattle.psy_base.specs.Extremes.{most_of}
 use Rattle.psy_code.specs.declared.code.Code.{Code}
 use Rattle.psy_code.specs.declared.instr.Instr.{Instr}
 use Rattle.psy_tree.specs.declared.unit.Unit.{Unit as Whole}
-use Rattle.psy_meaning.specs.CodeWays.{AreCodeDelays, AreCodeLooks, AreCodeNexts, agent_code_at, place_of}
+use Rattle.psy_tree.specs.Parts.{agent_at}
+use Rattle.psy_meaning.specs.CodeWays.{AreCodeDelays, AreCodeLooks, AreCodeNexts, IsCodeWay, IsMostCodeSends, agent_code_at, budget_of, place_of}
 use Rattle.psy_meaning.specs.Flow.{Rises}
 use Rattle.psy_meaning.specs.ListedWays.{AreByPoint, points_of}
 use Rattle.psy_meaning.specs.Sendings.{delay_of}
@@ -32,6 +33,21 @@ send_of (Some i) stream = sends_at (part_of i) stream
 -- The instruction at the place does.
 abbrev pub sends_there : List Instr → ℕ → ℕ → Bool
 sends_there instrs stream place = send_of (slice_get instrs place) stream
+
+-- ---- sends
+
+-- On the ways from a place to a point there is a most for each of the first so many streams.
+abbrev pub HaveMostsTo : List Instr → ℕ → ℕ → ℕ → ℕ → Type 0
+HaveMostsTo instrs from budget streams to = (stream : ℕ) → stream < streams → (most : ℕ) × IsMostCodeSends instrs from to stream budget most
+
+-- To each point where a way from the place ends
+abbrev pub HaveMostsFrom : List Instr → ℕ → ℕ → ℕ → Type 0
+HaveMostsFrom instrs from budget streams = (to : ℕ) (places : List ℕ) → IsCodeWay instrs to from places → HaveMostsTo instrs from budget streams to
+
+-- From each point of an agent
+abbrev pub HaveMostsOf : Whole → Code → ℕ → Type 0
+HaveMostsOf unit code agent = (point : ℕ) → point < length (agent_at unit agent).points
+    → HaveMostsFrom code.instrs (place_of code agent point) (budget_of unit agent point) (length unit.streams)
 
 -- ---- delays
 

@@ -7,9 +7,10 @@ ghost use Rattle.std.specs.Prelude.{◌≡◌, ◌<◌, ◌≤◌, ℕ, false, l
 ghost use Rattle.psy_base.specs.declared.limits.TheConstants.{POINTS, STREAMS};
 ghost use Rattle.psy_code.specs.declared.instr.Instr.{Instr as Instruction};
 ghost use Rattle.psy_tree.specs.Parts.{agent_at};
-ghost use Rattle.psy_meaning.specs.CodeWays.{AreCodeSends, AreCodeWays, CanWalk, IsPassed, NamesThere, budget_of, place_of};
+ghost use Rattle.psy_meaning.specs.CodeWays.{AreCodeSends, AreCodeWays, CanWalk, HaveAllMosts, IsPassed, NamesThere, budget_of, place_of};
 ghost use Rattle.psy_meaning.specs.ListedWays.{AreByPoint, points_of};
-ghost use Rattle.psy_meaning.specs.Units.{IsOfText};
+ghost use Rattle.psy_meaning.specs.Units.{IsBare};
+ghost use Rattle.psy_flow.specs.CodeLists.{HaveMostsFrom, HaveMostsOf};
 ghost use Rattle.psy_flow.specs.Listed.{AreOf};
 ghost use Rattle.psy_flow.specs.Walks.{ArePassed, StaysIn};
 
@@ -65,6 +66,7 @@ fn sends_from(
     ensures clear { OnOk result (marks.new ≡ replicate (length instrs.now) false) }
     ensures count { length row.new ≡ length instrs.now }
     ensures sends { IfOk result (AreCodeSends instrs.now from budget) }
+    ensures judged { IfOk result (λ _. HaveMostsFrom instrs.now from budget (length unit.now.streams)) }
 {
     let places = passed_backwards(alloc, instrs, from, marks)?;
     let nexts = ends_among(alloc, instrs, from, places.as_slice(), agent.points.len())?;
@@ -98,7 +100,7 @@ fn sends_of(
     marks: &mut Items<bool>,
     row: &mut Items<u64>,
 ) -> Result<Items<Items<SendWay>>, Memory>
-    requires text { IsOfText unit.now }
+    requires bare { IsBare unit.now }
     requires walk { CanWalk unit.now code.now }
     requires number { number < length unit.now.agents }
     requires clear { marks.old ≡ replicate (length code.now.instrs) false }
@@ -107,6 +109,7 @@ fn sends_of(
     ensures count { length row.new ≡ length code.now.instrs }
     ensures sends { IfOk result (AreOf (agent_at unit.now number)
         (λ point. AreCodeSends code.now.instrs (place_of code.now number point) (budget_of unit.now number point))) }
+    ensures judged { IfOk result (λ _. HaveMostsOf unit.now code.now number) }
 {
     let agent = &unit.agents.as_slice()[number];
     let mut sends = Items::new(alloc);
@@ -132,10 +135,11 @@ fn all_sends(
     unit: &Unit,
     code: &Code,
 ) -> Result<Items<Items<Items<SendWay>>>, Memory>
-    requires text { IsOfText unit.now }
+    requires bare { IsBare unit.now }
     requires walk { CanWalk unit.now code.now }
-    ensures { IfOk result (AreByPoint (points_of unit.now)
+    ensures sends { IfOk result (AreByPoint (points_of unit.now)
         (λ agent point. AreCodeSends code.now.instrs (place_of code.now agent point) (budget_of unit.now agent point))) }
+    ensures judged { IfOk result (λ _. (agent : ℕ) → agent < length unit.now.agents → HaveMostsOf unit.now code.now agent) }
 {
     let mut marks = no_marks(alloc, code.instrs.len())?;
     let mut row = zeros(alloc, code.instrs.len())?;
@@ -151,9 +155,10 @@ fn all_sends(
 /// which they look, and the most sends to each stream on the ways to each of these points, where the budget of the point stands for the most if
 /// there is no greatest number of them; and by stream the greatest delay of the sends to it. The only error is want of memory.
 pub fn code_ways(alloc: Global, unit: &Unit, code: &Code) -> Result<Ways, Memory>
-    requires text { IsOfText unit.now }
+    requires bare { IsBare unit.now }
     requires walk { CanWalk unit.now code.now }
-    ensures { IfOk result (AreCodeWays unit.now code.now) }
+    ensures ways { IfOk result (AreCodeWays unit.now code.now) }
+    ensures judged { IfOk result (λ ways. HaveAllMosts unit.now code.now ways.nexts) }
 {
     let paths = code_paths(alloc, unit, code)?;
     let sends = all_sends(alloc, unit, code)?;

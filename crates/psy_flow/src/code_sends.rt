@@ -5,8 +5,8 @@ ghost use Rattle.std.specs.List.{All, list_any};
 ghost use Rattle.psy_base.specs.declared.limits.TheConstants.{STREAMS};
 ghost use Rattle.psy_base.specs.declared.ways.SendWay.{SendWay};
 ghost use Rattle.psy_code.specs.declared.instr.Instr.TheVariants as instruction;
-ghost use Rattle.psy_meaning.specs.CodeWays.{AreCodeNexts, AreCodeSends, IsCodeWay, IsMostCodeSends, IsPassed};
-ghost use Rattle.psy_flow.specs.CodeLists.{sends_at, sends_there};
+ghost use Rattle.psy_meaning.specs.CodeWays.{AreCodeNexts, AreCodeSends, HaveMosts, IsCodeWay, IsMostCodeSends, IsPassed};
+ghost use Rattle.psy_flow.specs.CodeLists.{HaveMostsTo, sends_at, sends_there};
 ghost use Rattle.psy_flow.specs.Listed.{AreSendsUpTo};
 ghost use Rattle.psy_flow.specs.Reach.{marked};
 ghost use Rattle.psy_flow.specs.Walks.{ArePassed, StaysIn};
@@ -122,6 +122,7 @@ fn add_code_sends(
     ensures count { length row.new ≡ length instrs.now }
     ensures ways { OnOk result (AreSendsUpTo (λ to stream. IsMostCodeSends instrs.now from to stream budget) to 0 ways.old
         → AreSendsUpTo (λ to stream. IsMostCodeSends instrs.now from to stream budget) to (length sent.now) ways.new) }
+    ensures judged { OnOk result (HaveMostsTo instrs.now from budget (length sent.now) to) }
 {
     'streams: for stream in 0..sent.len() as u32 {
         let most = most_if_sent(instrs, from, places, sent, to, stream, budget, row);
@@ -131,7 +132,8 @@ fn add_code_sends(
 }
 
 /// All sends of the ways through code from a place in order, where these are the points where they end, and each stream is one of the first so
-/// many. The places are those that ways from there pass. The only error is want of memory.
+/// many: on the ways to each of these points there is a most for each stream. The places are those that ways from there pass. The only error is
+/// want of memory.
 pub fn code_sends(
     alloc: Global,
     instrs: &[Instr],
@@ -151,6 +153,7 @@ pub fn code_sends(
     requires few { streams ≤ STREAMS }
     ensures count { length row.new ≡ length instrs.now }
     ensures sends { IfOk result (AreCodeSends instrs.now from budget) }
+    ensures judged { IfOk result (λ _. HaveMosts instrs.now from budget streams nexts.now) }
 {
     let mut sent = no_marks(alloc, streams)?;
     mark_all_sent(&mut sent, instrs, places);

@@ -10,7 +10,6 @@ ghost use Rattle.psy_flow.specs.Walks.{ArePassed, StaysIn, ends_at, ends_there};
 
 use crate::next::{marked_numbers, no_marks};
 use crate::reach::mark;
-use crate::walks::passed;
 use psy_base::{Items, Memory};
 use psy_code::Instr;
 use std::alloc::Global;
@@ -60,22 +59,4 @@ pub fn ends_among(
     let mut reached = no_marks(alloc, points)?;
     mark_ends(&mut reached, instrs, places);
     marked_numbers(alloc, reached.as_slice())
-}
-
-/// The points where the ways through code from a place end, in rising order, where each of them is one of the first so many. The only error
-/// is want of memory.
-pub fn code_next_points(
-    alloc: Global,
-    instrs: &[Instr],
-    from: usize,
-    points: usize,
-) -> Result<Items<u32>, Memory>
-    requires inside { StaysIn instrs.now from }
-    requires named { (place point : ℕ) → IsPassed instrs.now from place → slice_get instrs.now place ≡ Some (instruction.Advance point)
-        → point < points }
-    requires few { points ≤ POINTS }
-    ensures { IfOk result (AreCodeNexts instrs.now from) }
-{
-    let places = passed(alloc, instrs, from)?;
-    ends_among(alloc, instrs, from, places.as_slice(), points)
 }

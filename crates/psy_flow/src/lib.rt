@@ -43,7 +43,6 @@ mod worst_costs;
 
 pub use code_lists::code_ways;
 pub use depths::Depths;
-pub use ends::code_next_points;
 pub use flow::{looks, most_sends, worst};
 pub use listed::{sends, ways};
 pub use next::next_points;

@@ -6,7 +6,7 @@
 ghost use Rattle.std.specs.Prelude.{◌≡◌, ◌<◌, ◌≤◌, ℕ, length, replicate, IfOk};
 ghost use Rattle.psy_base.specs.declared.limits.TheConstants.{POINTS};
 ghost use Rattle.psy_meaning.specs.CodeWays.{AreCodeDelays, CanWalk};
-ghost use Rattle.psy_meaning.specs.Units.{IsOfText};
+ghost use Rattle.psy_meaning.specs.Units.{IsBare};
 ghost use Rattle.psy_flow.specs.Bits.{AreEndings, IsFoundFrom};
 ghost use Rattle.psy_flow.specs.CodeLists.{AreCodePaths, AreFoundLists, most_points};
 
@@ -94,7 +94,7 @@ fn code_delays(
 /// they end and the variables at which they look; and by stream the greatest delay of the sends to it, in ticks. The only error is want of
 /// memory.
 pub fn code_paths(alloc: Global, unit: &Unit, code: &Code) -> Result<Paths, Memory>
-    requires text { IsOfText unit.now }
+    requires bare { IsBare unit.now }
     requires walk { CanWalk unit.now code.now }
     ensures { IfOk result (AreCodePaths unit.now code.now) }
 {

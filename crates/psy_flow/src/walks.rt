@@ -3,7 +3,7 @@
 ghost use Rattle.std.specs.Prelude.{◌≡◌, ◌<◌, ℕ, false, length, replicate, Some, IfOk, OnOk, slice_get, slice_index_or};
 ghost use Rattle.std.specs.List.{All, Contains};
 ghost use Rattle.psy_code.specs.declared.instr.Instr.{Instr as Instruction};
-ghost use Rattle.psy_flow.specs.Walks.{AreMet, ArePassed, ArePassedFrom, IsGrown, IsMarked, IsPassedFrom, MayFollow, AllStayIn, StaysIn, onward_of};
+ghost use Rattle.psy_flow.specs.Walks.{AreMet, ArePassedFrom, IsGrown, IsMarked, IsPassedFrom, MayFollow, AllStayIn, onward_of};
 
 use crate::next::no_marks;
 use psy_base::{Items, Memory};
@@ -183,12 +183,4 @@ pub fn passed_from(
 {
     let mut marks = no_marks(alloc, instrs.len())?;
     passed_by_marks(alloc, instrs, starts, &mut marks)
-}
-
-/// The places that ways from a place pass, each once. The only error is want of memory.
-pub fn passed(alloc: Global, instrs: &[Instr], from: usize) -> Result<Items<usize>, Memory>
-    requires inside { StaysIn instrs.now from }
-    ensures { IfOk result (ArePassed instrs.now from) }
-{
-    passed_from(alloc, instrs, &[from])
 }

@@ -13,6 +13,7 @@ pub mod Kinds
 pub mod Lists
 pub mod Measures
 pub mod Modes
+pub mod Owned
 pub mod Passing
 pub mod Points
 pub mod Rests

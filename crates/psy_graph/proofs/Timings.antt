@@ -1,4 +1,4 @@
--- What is known of the timing of an agent of a text.
+-- What is known of the timing of an agent of a program.
 use Rattle.std.proofs.Common.{◌≡◌, ℕ, zero, suc, ◌<◌, ◌≤◌, List, [], ◌∷◌, All, length, get_or, Some, ap, subst, inl, inr, arith}
 use Rattle.std.specs.Prelude.{slice_get}
 use Rattle.std.proofs.lemmas.Bool.{cases_lt}
@@ -9,10 +9,9 @@ use Rattle.psy_base.specs.declared.limits.TheConstants.{ADVANCE, BUDGET}
 use Rattle.psy_tree.specs.declared.unit.AgentDecl.{AgentDecl}
 use Rattle.psy_tree.specs.declared.unit.Point.{Point}
 use Rattle.psy_tree.specs.declared.unit.Unit.{Unit}
-use Rattle.psy_flow.specs.Agents.{IsAgentOf}
 use Rattle.psy_meaning.specs.Flow.{Rises}
 use Rattle.psy_meaning.specs.Timing.{timing_of}
-use Rattle.psy_meaning.specs.Units.{HasHead, IsBareAgent, IsBarePoint}
+use Rattle.psy_meaning.specs.Units.{HasHead, IsBare, IsBareAgent, IsBarePoint}
 use Rattle.psy_graph.specs.Graphs.{IsTimed}
 use Rattle.psy_graph.specs.Places.{IsList}
 
@@ -36,13 +35,12 @@ points_count unit agent (p ∷ points) d h (suc point) some l = (h.1 point d (om
 nothing_rises : (xs : List ℕ) → length xs ≡ 0 → Rises xs
 nothing_rises xs none i j m n ij ei ej = absurd (omega (arith, none, slice_get_within xs i m ei))
 
--- How the actions of an agent begin and end that is one of a text, where these points follow each of its points
-pub timed_by : (unit : Unit) (number : ℕ) (agent : AgentDecl) (nexts : List (List ℕ)) → IsAgentOf unit number agent → length nexts ≡ length agent.points
+-- How the actions of an agent of a program begin and end, where these points follow each of its points
+pub timed_by : (unit : Unit) (number : ℕ) (agent : AgentDecl) (nexts : List (List ℕ)) → IsBare unit → slice_get unit.agents number ≡ Some agent → length nexts ≡ length agent.points
     → ((point : ℕ) (list : List ℕ) → slice_get nexts point ≡ Some list → Rises list) → All (IsList (length agent.points)) nexts → IsTimed (timing_of unit agent nexts)
-timed_by unit number agent nexts of count rise lists =
-    let bare = of.0.bare in
-    let l : number < length unit.agents = slice_get_within unit.agents number agent of.1 in
-    let here : IsBareAgent unit agent = subst (IsBareAgent unit) (get_or_from_slice_get unit.agents number agent agent of.1) (All-get_or (IsBareAgent unit) unit.agents number agent l bare.agents) in
+timed_by unit number agent nexts bare at count rise lists =
+    let l : number < length unit.agents = slice_get_within unit.agents number agent at in
+    let here : IsBareAgent unit agent = subst (IsBareAgent unit) (get_or_from_slice_get unit.agents number agent agent at) (All-get_or (IsBareAgent unit) unit.agents number agent l bare.agents) in
     record {
       clocks = bare.clocks;
       named = points_named unit agent agent.points here.points here.clock;

@@ -4,7 +4,7 @@ ghost use Rattle.std.specs.Prelude.{◌≡◌, ◌⊎◌, ◌<◌, length, IfOk,
 ghost use Rattle.std.specs.List.{All};
 ghost use Rattle.psy_meaning.specs.ListedWays.{AreWaysFor};
 ghost use Rattle.psy_meaning.specs.RingSizes.{agent_timing};
-ghost use Rattle.psy_meaning.specs.Units.{IsOfText};
+ghost use Rattle.psy_meaning.specs.Units.{IsBare, IsOfText};
 ghost use Rattle.psy_window.specs.Windows.{IsEdge};
 ghost use Rattle.psy_graph.specs.declared.fault.GraphFault.TheVariants.{Memory as no_memory};
 ghost use Rattle.psy_graph.specs.Graphs.{AreGraphs, AreGraphsBy, HasGraphBy, IsCause, IsCauseBy, IsGraphOf, IsSmall, IsTimed};
@@ -41,7 +41,7 @@ fn graph_by(alloc: Global, times: &Times, agent: u32) -> Result<Graph, GraphFaul
 
 /// The graph of an agent of a unit, by its number.
 fn graph_of(alloc: Global, unit: &Unit, ways: &Ways, number: u32) -> Result<Graph, GraphFault>
-    requires text { IsOfText unit.now }
+    requires bare { IsBare unit.now }
     requires ways { AreWaysFor unit.now ways.now }
     requires number { number < length unit.now.agents }
     ensures graph { IfOk result (HasGraphBy unit.now ways.now.nexts number) }
@@ -61,7 +61,7 @@ fn graph_of(alloc: Global, unit: &Unit, ways: &Ways, number: u32) -> Result<Grap
 /// The graphs of all agents of a program in order, by the points that follow each of their points. `Nodes` and `Edges` name the first agent
 /// whose graph would have more nodes, or edges, than a graph may have.
 pub fn build_by(alloc: Global, unit: &Unit, ways: &Ways) -> Result<Items<Graph>, GraphFault>
-    requires text { IsOfText unit.now }
+    requires bare { IsBare unit.now }
     requires ways { AreWaysFor unit.now ways.now }
     ensures graphs { IfOk result (AreGraphsBy unit.now ways.now.nexts) }
     ensures edges { IfOk result (All (λ graph. All (IsEdge (length graph.nodes)) graph.edges)) }

@@ -9,7 +9,7 @@ ghost use Rattle.psy_meaning.specs.Flow.{AreAllNexts};
 ghost use Rattle.psy_meaning.specs.Graph.{Spot, IsGraph};
 ghost use Rattle.psy_meaning.specs.ListedWays.{AreWaysFor};
 ghost use Rattle.psy_meaning.specs.RingSizes.{agent_timing};
-ghost use Rattle.psy_meaning.specs.Units.{IsOfText};
+ghost use Rattle.psy_meaning.specs.Units.{IsBare, IsOfText};
 ghost use Rattle.psy_window.specs.Windows.{IsEdge};
 ghost use Rattle.psy_graph.specs.declared.fault.GraphFault.{GraphFault};
 ghost use Rattle.psy_graph.specs.declared.graph.Graph.{Graph};
@@ -37,7 +37,7 @@ pub fn one_graph()
     ensures near { (unit : Whole) (graphs : List Graph) → IsOfText unit → AreGraphs unit graphs → All IsNear graphs }
     // By ways of the program or by its statements, its agents' actions begin and end as they may, and so have such edges; and where these
     // points follow each point, the graphs and the faults are the same.
-    ensures timed { (unit : Whole) (ways : Ways) (number : ℕ) → IsOfText unit → AreWaysFor unit ways → number < length unit.agents
+    ensures timed { (unit : Whole) (ways : Ways) (number : ℕ) → IsBare unit → AreWaysFor unit ways → number < length unit.agents
         → IsTimed (agent_timing unit ways.nexts number) }
     ensures of_text { (unit : Whole) (number : ℕ) (timing : Timing) → IsOfText unit → IsTimingOf unit number timing → IsTimed timing }
     ensures fit { (timing : Timing) (graph : Graph) → IsTimed timing → IsGraphOf timing graph → All (IsEdge (length graph.nodes)) graph.edges }

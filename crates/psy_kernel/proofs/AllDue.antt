@@ -6,7 +6,7 @@ use Rattle.std.proofs.lemmas.Bool.{cases_lt}
 use Rattle.std.proofs.lemmas.Option.{slice_get-get_or}
 use Rattle.psy_history.specs.Scripts.{round_of}
 use Rattle.psy_kernel.specs.declared.stage.Stage.TheVariants.{DateDue}
-use Rattle.psy_kernel.specs.Engines.{IsAhead, next_date}
+use Rattle.psy_kernel.specs.Engines.{next_date}
 use Rattle.psy_kernel.specs.Kernels.{KernelStands, progress_of}
 use Rattle.psy_kernel.specs.Progress.{Progress, stage_of}
 use Rattle.psy_kernel.specs.Standing.{InTick}
@@ -29,10 +29,8 @@ module _ (k : Inside) (is : KernelStands k) (p : Progress) (view : progress_of k
   ]
 
   filled_by : (processor done : ℕ) → slice_get k.engine.done processor ≡ Some done → done ≡ k.cycles
-  filled_by processor done there = elim (subst (λ units. IsAhead k.engine processor (if list_any (λ m. m == processor) (take units (round_of k.engine.plan.unit k.engine.script k.cycles)) then k.cycles + 1 else k.cycles) done) none_begun (is.ahead processor done there)) [
-    | inl same ↦ same
-    | inr c ↦ absurd (omega (arith, c.some, c.within, due_in.1))
-  ]
+  filled_by processor done there =
+      subst (λ units. done ≡ (if list_any (λ m. m == processor) (take units (round_of k.engine.plan.unit k.engine.script k.cycles)) then k.cycles + 1 else k.cycles)) none_begun (is.exact processor done there)
 
   pub all_due : All (λ done. done ≡ next_date k.engine) k.engine.done
   all_due processor d less = filled_by processor (get_or k.engine.done processor d) (slice_get-get_or k.engine.done processor d less) ∙ due_in.1
@@ -46,8 +44,7 @@ module _ (k : Inside) (is : KernelStands k) (p : Progress) (view : progress_of k
     units = is.units;
     inside = λ some. absurd (omega (arith, some, none_begun));
     served = is.served;
-    ahead = λ processor done there.
-        inl (subst (λ units. done ≡ (if list_any (λ m. m == processor) (take units (round_of k.engine.plan.unit k.engine.script k.cycles)) then k.cycles + 1 else k.cycles)) (sym none_begun) (filled_by processor done there));
+    exact = is.exact;
     declared = is.declared;
     turned = is.turned;
   }

@@ -1,36 +1,36 @@
--- The first change of a processor behind the cycles that it did.
+-- The first change of a processor behind the cycles that it did, up to a cycle.
 use Rattle.std.proofs.Common.{◌≡◌, sym, ap, ◌∙◌, subst, inl, inr, arith}
 use Rattle.std.specs.Prelude.{ℕ, ◌*◌, ◌<◌, ◌≤◌, List, Some, slice_get}
 use Rattle.std.proofs.lemmas.Bool.{cases_lt}
 use Rattle.psy_dates.specs.Standing.{dates_done}
 use Rattle.psy_history.specs.declared.told.Order.{Order}
-use Rattle.psy_kernel.specs.Engines.{ChangesOn, EngineState, IsChangeOn, IsOverOn, done_on, next_date}
+use Rattle.psy_kernel.specs.Engines.{ChangesOn, EngineState, IsOverOn, done_on, next_date}
 use Rattle.psy_kernel.specs.Standing.{EngineStands, ServerStands, state_of}
 use Rattle.psy_kernel.specs.declared.engine.Engine.TheInside.{Inside}
 use Rattle.psy_kernel.specs.declared.engine.Server.{Server}
 use Rattle.psy_kernel.proofs.Engines.{cycles_is}
 use Rattle.psy_kernel.proofs.OrdersInForce.{all_ahead}
 
-module _ (k : Inside) (is : EngineStands k) (processor : ℕ) (server : Server) (there : slice_get k.servers.items processor ≡ Some server) (e : EngineState) (view : state_of k ≡ e) (due : done_on e processor < next_date e) where
+module _ (k : Inside) (is : EngineStands k) (processor : ℕ) (server : Server) (there : slice_get k.servers.items processor ≡ Some server) (e : EngineState) (view : state_of k ≡ e) where
   stands : ServerStands (state_of k) processor server
   stands = is.servers processor server there
 
   pub done_is : done_on e processor ≡ server.cycles
   done_is = ap (λ (q : EngineState). done_on q processor) (sym view) ∙ cycles_is k.servers.items processor server there
 
-  due_in : server.cycles < dates_done k.shared.date * k.plan.unit.quantum
-  due_in = let less = subst (λ (q : EngineState). done_on q processor < next_date q) (sym view) due in subst (λ n. n < dates_done k.shared.date * k.plan.unit.quantum) (cycles_is k.servers.items processor server there) less
+  -- the cycle before which nothing comes from outside: the limit, or the next order's
+  module _ (limit : ℕ) (due : done_on e processor < limit) (within : limit ≤ next_date e) (orders : List Order) (orders_are : orders ≡ k.script.orders) (end : ℕ) (no_later : end ≤ limit)
+      (ahead : (o : Order) → slice_get orders server.passed ≡ Some o → end ≤ o.cycle) (at : end < limit → (o : Order) × (slice_get orders server.passed ≡ Some o) × (o.cycle ≡ end)) where
+    within_in : limit ≤ dates_done k.shared.date * k.plan.unit.quantum
+    within_in = subst (λ (q : EngineState). limit ≤ next_date q) (sym view) within
 
-  -- the cycle before which nothing comes from outside: the next date's first one, or the next order's
-  module _ (orders : List Order) (orders_are : orders ≡ k.script.orders) (date : ℕ) (date_is : date ≡ dates_done k.shared.date * k.plan.unit.quantum) (end : ℕ) (no_later : end ≤ date)
-      (ahead : (o : Order) → slice_get orders server.passed ≡ Some o → end ≤ o.cycle) (at : end < date → (o : Order) × (slice_get orders server.passed ≡ Some o) × (o.cycle ≡ end)) where
     found : (o : Order) → slice_get orders server.passed ≡ Some o → slice_get k.script.orders server.passed ≡ Some o
     found o here = ap (λ os. slice_get os server.passed) (sym orders_are) ∙ here
 
     above_in : server.cycles < end
-    above_in = elim (cases_lt end date) [
+    above_in = elim (cases_lt end limit) [
       | inl less ↦ (let w = at less in omega (arith, stands.orders.ahead server.passed w.0 (found w.0 w.1) (omega arith), w.2))
-      | inr whole ↦ (let b = due_in in omega (arith, b, date_is, whole))
+      | inr whole ↦ omega (arith, due, done_is, whole)
     ]
 
     ahead_in : (place : ℕ) (o : Order) → slice_get k.script.orders place ≡ Some o → server.cycles < o.cycle → end ≤ o.cycle
@@ -48,29 +48,31 @@ module _ (k : Inside) (is : EngineStands k) (processor : ℕ) (server : Server) 
         (subst (λ c. (place : ℕ) (o : Order) → slice_get k.script.orders place ≡ Some o → c < o.cycle → end ≤ o.cycle) (sym (cycles_is k.servers.items processor server there)) ahead_in)
 
     pub end_within : end ≤ next_date e
-    end_within = subst (λ (q : EngineState). end ≤ next_date q) view (omega (arith, date_is, no_later))
+    end_within = omega (arith, within, no_later)
 
-    changes_in : (cycles : ℕ) → cycles ≤ end → (cycles < end → IsOverOn (state_of k) processor cycles) → ChangesOn (state_of k) processor cycles
-    changes_in cycles high over = elim (cases_lt cycles end) [
+    change_in : (cycles : ℕ) → cycles ≤ end → (cycles < end → IsOverOn (state_of k) processor cycles) → cycles < limit → ChangesOn (state_of k) processor cycles
+    change_in cycles high over early = elim (cases_lt cycles end) [
       | inl less ↦ inr (inl (over less))
-      | inr whole ↦ elim (cases_lt end date) [
-        | inl less ↦ (let w = at less in inr (inr (server.passed, w.0, found w.0 w.1, omega (arith, w.2, whole, high))))
-        | inr past ↦ inl (omega (arith, whole, high, past, no_later, date_is))
-      ]
+      | inr whole ↦ (let w = at (omega (arith, whole, high, early)) in inr (inr (server.passed, w.0, found w.0 w.1, omega (arith, w.2, whole, high))))
     ]
+
+    -- so many cycles later, where none of them but the last may end an action, something has changed
+    pub change_there : (cycles : ℕ) → cycles ≤ end → (cycles < end → IsOverOn e processor cycles) → cycles < limit → ChangesOn e processor cycles
+    change_there = subst (λ (q : EngineState). (cycles : ℕ) → cycles ≤ end → (cycles < end → IsOverOn q processor cycles) → cycles < limit → ChangesOn q processor cycles) view change_in
 
     first_in : (cycles : ℕ) → cycles ≤ end → ((between : ℕ) → server.cycles < between → between < cycles → IsOverOn (state_of k) processor between → ⊥)
         → (between : ℕ) → server.cycles < between → between < cycles → ChangesOn (state_of k) processor between → ⊥
     first_in cycles high steady between above below changes = elim changes [
-      | inl filled_is ↦ omega (arith, filled_is, below, high, no_later, date_is)
+      | inl filled_is ↦ (let b = within_in in omega (arith, filled_is, below, high, no_later, b))
       | inr more ↦ elim more [
         | inl over ↦ steady between above below over
         | inr ordered ↦ (let late = ahead_in ordered.0 ordered.1 ordered.2 (omega (arith, ordered.3, above)) in omega (arith, late, ordered.3, below, high))
       ]
     ]
 
-    pub ends_there : (cycles : ℕ) → done_on e processor < cycles → cycles ≤ end → ((between : ℕ) → done_on e processor < between → between < cycles → IsOverOn e processor between → ⊥) → (cycles < end → IsOverOn e processor cycles) → IsChangeOn e processor (done_on e processor) cycles
-    ends_there =
-        subst (λ (q : EngineState). (cycles : ℕ) → done_on q processor < cycles → cycles ≤ end → ((between : ℕ) → done_on q processor < between → between < cycles → IsOverOn q processor between → ⊥) → (cycles < end → IsOverOn q processor cycles) → IsChangeOn q processor (done_on q processor) cycles) view
-        (subst (λ c. (cycles : ℕ) → c < cycles → cycles ≤ end → ((between : ℕ) → c < between → between < cycles → IsOverOn (state_of k) processor between → ⊥) → (cycles < end → IsOverOn (state_of k) processor cycles) → IsChangeOn (state_of k) processor c cycles) (sym (cycles_is k.servers.items processor server there))
-        (λ cycles above high steady over. record { some = above; within = omega (arith, high, no_later, date_is); changes = changes_in cycles high over; first = first_in cycles high steady }))
+    -- and nothing before.
+    pub first_there : (cycles : ℕ) → cycles ≤ end → ((between : ℕ) → done_on e processor < between → between < cycles → IsOverOn e processor between → ⊥)
+        → (between : ℕ) → done_on e processor < between → between < cycles → ChangesOn e processor between → ⊥
+    first_there =
+        subst (λ (q : EngineState). (cycles : ℕ) → cycles ≤ end → ((between : ℕ) → done_on q processor < between → between < cycles → IsOverOn q processor between → ⊥) → (between : ℕ) → done_on q processor < between → between < cycles → ChangesOn q processor between → ⊥) view
+        (subst (λ c. (cycles : ℕ) → cycles ≤ end → ((between : ℕ) → c < between → between < cycles → IsOverOn (state_of k) processor between → ⊥) → (between : ℕ) → c < between → between < cycles → ChangesOn (state_of k) processor between → ⊥) (sym (cycles_is k.servers.items processor server there)) first_in)

@@ -2,7 +2,7 @@
 use Rattle.std.proofs.Common.{◌≡◌, ◌≢◌, Vec, Global, refl, sym, ap, ◌∙◌, subst, inl, inr, arith}
 use Rattle.std.specs.Prelude.{ℕ, suc, ◌+◌, ◌-◌, ◌*◌, ◌<◌, ◌≤◌, Bool, true, false, if◌then◌else◌, List, ◌∷◌, length, get_or, Option, Some, None, slice_get, slice_set, ℤ}
 use Rattle.std.specs.List.{All, Contains}
-use Rattle.std.proofs.lemmas.Bool.{cases_eq, true≢false}
+use Rattle.std.proofs.lemmas.Bool.{cases_eq, cases_lt, true≢false}
 use Rattle.std.proofs.lemmas.List.Elements.{All-contains, All-weaker}
 use Rattle.std.proofs.lemmas.Option.{same_Some, slice_get-get_or, slice_get_within}
 use Rattle.psy_dates.specs.declared.seat.Seat.{Seat}
@@ -34,7 +34,7 @@ use Rattle.psy_kernel.proofs.Engines.{HaveGone, IsDue, gone_turns, opening_in, o
 use Rattle.psy_kernel.proofs.GivenCycles.{StaysSo, idle_reach, in_a_row, missed_all, own_given, own_stay, same_stays, was_pending}
 use Rattle.psy_kernel.proofs.OtherAgents.{other_agent}
 use Rattle.psy_kernel.proofs.MoversGiven.{IsTold}
-use Rattle.psy_kernel.proofs.Parts.{PartsStand, alike, given, idle, nobody_soonest, one_of, pick_home, pick_known, pick_soonest, shared_given, waits_alike}
+use Rattle.psy_kernel.proofs.Parts.{PartsStand, alike, given, idle, nobody_pending, nobody_soonest, one_of, pick_home, pick_known, pick_soonest, shared_given, waits_alike}
 use Rattle.psy_kernel.proofs.Ticks.{IsInside}
 
 last_date : (dates date : ℕ) → dates ≡ date + 1 → dates - 1 ≡ date
@@ -86,9 +86,9 @@ module _ (k : Inside) (is : EngineStands k) (processor : ℕ) (server : Server) 
       (λ j below agent. subst (λ m. All (StaysSo all (given_to turn j all)) (history (run_in k) m agent)) inside.0 (stay j below agent))
 
   -- As long as who is pending stays, no action is over
-  steady : (turn : Option Turn) (n : ℕ) → ((j : ℕ) → j ≤ n → all_in (server.cycles + j) ≡ given_to turn j all) → ((j : ℕ) → j < n → (agent : ℕ) → All (StaysSo all (given_to turn j all)) (history (run_in k) dates agent))
-      → (between : ℕ) → server.cycles < between → between < server.cycles + n → IsOverOn (state_of k) processor between → ⊥
-  steady turn n row stay between above below w =
+  steady_on : (turn : Option Turn) (n : ℕ) → ((j : ℕ) → j ≤ n → all_in (server.cycles + j) ≡ given_to turn j all) → ((j : ℕ) → j ≤ n → (agent : ℕ) → All (StaysSo all (given_to turn j all)) (history (run_in k) dates agent))
+      → (between : ℕ) → server.cycles < between → between ≤ server.cycles + n → IsOverOn (state_of k) processor between → ⊥
+  steady_on turn n row stay between above below w =
       let r : Action = w.1 in
       let j : ℕ = between - 1 - server.cycles in
       let a : between - 1 ≡ server.cycles + j = omega (arith, above) in
@@ -99,7 +99,19 @@ module _ (k : Inside) (is : EngineStands k) (processor : ℕ) (server : Server) 
       ∙ All-contains (StaysSo all (given_to turn (suc j) all)) (history (run_in k) dates w.0) r (stay (suc j) (omega (arith, above, below)) w.0) w.3 in
       true≢false (sym w.4 ∙ first ∙ sym second ∙ w.5)
 
+  steady : (turn : Option Turn) (n : ℕ) → ((j : ℕ) → j ≤ n → all_in (server.cycles + j) ≡ given_to turn j all) → ((j : ℕ) → j < n → (agent : ℕ) → All (StaysSo all (given_to turn j all)) (history (run_in k) dates agent))
+      → (between : ℕ) → server.cycles < between → between < server.cycles + n → IsOverOn (state_of k) processor between → ⊥
+  steady turn n row stay between above below =
+      steady_on turn (n - 1) (λ j less. row j (omega (arith, less))) (λ j less. stay j (omega (arith, less, above, below))) between above (omega (arith, above, below))
+
   -- ---- nobody waits
+
+  -- no action of its agents is pending
+  pub nobody_acts : ((agent : ℕ) → pending_deadline server.ready agent ≡ None) → (agent : ℕ) (r : Action) → processor_at k.plan.unit agent ≡ processor → Contains (history (run_in k) dates agent) r → is_pending all r ≡ false
+  nobody_acts nobody agent r of there =
+      subst (λ ts. is_pending ts r ≡ false) (mine agent of)
+      (All-contains (λ q. is_pending (turns_in k agent) q ≡ false) (history (run_in k) dates agent) r
+      (nobody_pending (run_in k) k.plan.sizes k.plan.code k.plan.until (turns_in k) dates k.shared k.runners.items (waits_on k.plan.unit k.servers.items) (parts_in k is) lawful processor server.ready stands.waiting all waits stands.own mine over_now nobody agent of) there)
 
   module _ (nobody : IsChosen server.ready order None) (n : ℕ) (high : server.cycles + n ≤ (date + 1) * k.plan.unit.quantum) (ahead : (o : Order) → slice_get k.script.orders server.passed ≡ Some o → server.cycles + n ≤ o.cycle) where
     idle_stay : (j agent : ℕ) → All (StaysSo all (given_to None j all)) (history (run_in k) dates agent)
@@ -137,6 +149,9 @@ module _ (k : Inside) (is : EngineStands k) (processor : ℕ) (server : Server) 
     -- with none of them an action is over
     pub idle_steady : (between : ℕ) → server.cycles < between → between < server.cycles + n → IsOverOn (state_of k) processor between → ⊥
     idle_steady = steady None n idle_row (λ j below. idle_stay j)
+
+    pub idle_on : 1 ≤ n → IsOverOn (state_of k) processor (server.cycles + n) → ⊥
+    idle_on some = steady_on None n idle_row (λ j below. idle_stay j) (server.cycles + n) (omega (arith, some)) (omega arith)
 
   -- ---- an agent is chosen
 
@@ -291,6 +306,15 @@ module _ (k : Inside) (is : EngineStands k) (processor : ℕ) (server : Server) 
         pub given_steady : (between : ℕ) → server.cycles < between → between < server.cycles + n → IsOverOn (state_of k) processor between → ⊥
         given_steady = steady (turn_of (Some r)) n turns (λ j below. stay j (pends j below))
 
+        pub given_on_steady : is_pending (given_turns n) r ≡ true → IsOverOn (state_of k) processor (server.cycles + n) → ⊥
+        given_on_steady last = steady_on (turn_of (Some r)) n turns (λ j below. stay j (pends_on j below)) (server.cycles + n) (omega (arith, some)) (omega arith)
+          where
+            pends_on : (j : ℕ) → j ≤ n → is_pending (given_turns j) r ≡ true
+            pends_on j below = elim (cases_lt j n) [
+              | inl less ↦ pends j less
+              | inr whole ↦ (let same : n ≡ j = omega (arith, below, whole) in subst (λ i. is_pending (given_turns i) r ≡ true) same last)
+            ]
+
         -- with the last one it is, where its action is
         pub over_by : (goes : Bool) → is_pending (given_turns n) r ≡ goes → goes ≡ false → IsOverOn (state_of k) processor (server.cycles + n)
         over_by goes is_so over =
@@ -373,6 +397,9 @@ module _ (k : Inside) (is : EngineStands k) (processor : ℕ) (server : Server) 
 
         pub lasted_steady : (between : ℕ) → server.cycles < between → between < server.cycles + n → IsOverOn (state_of k) processor between → ⊥
         lasted_steady = given_steady n count.0 lasted_row lasts.pends
+
+        pub lasted_on : goes ≡ true → IsOverOn (state_of k) processor (server.cycles + n) → ⊥
+        lasted_on on = given_on_steady n count.0 lasted_row lasts.pends (lasts.is_on ∙ on)
 
         pub lasted_over : goes ≡ false → IsOverOn (state_of k) processor (server.cycles + n)
         lasted_over over = over_by n count.0 lasted_row lasts.pends goes lasts.is_on over

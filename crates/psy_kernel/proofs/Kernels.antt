@@ -1,5 +1,5 @@
 -- A kernel before its first unit, and behind a line.
-use Rattle.std.proofs.Common.{◌≡◌, sym, ap, ◌∙◌, subst, inl, inr, arith}
+use Rattle.std.proofs.Common.{◌≡◌, sym, ap, ◌∙◌, subst, arith}
 use Rattle.std.specs.Prelude.{ℕ, ◌+◌, ◌<◌, ◌==◌, if◌then◌else◌, List, length, take, Some, slice_get, ℤ}
 use Rattle.std.specs.List.{list_any, range_with_len}
 use Rattle.std.proofs.lemmas.List.{length-replicate}
@@ -9,7 +9,7 @@ use Rattle.psy_tree.specs.declared.unit.Unit.{Unit as Whole}
 use Rattle.psy_history.specs.Processors.{processors}
 use Rattle.psy_history.specs.Scripts.{IsScript, round_of}
 use Rattle.psy_history.specs.declared.told.Script.{Script}
-use Rattle.psy_kernel.specs.Engines.{EngineState, IsAhead, begun}
+use Rattle.psy_kernel.specs.Engines.{EngineState, begun}
 use Rattle.psy_kernel.specs.Kernels.{AreTurned, KernelStands}
 use Rattle.psy_kernel.specs.Standing.{InTick}
 use Rattle.psy_kernel.specs.declared.kernel.Kernel.TheInside.{Inside}
@@ -29,20 +29,14 @@ stands_first k plan inputs script is_plan is_script begins none_done none_had de
   units = omega (arith, none_had, some_processor k.engine.plan.unit);
   inside = λ some. absurd (omega (arith, some, none_had));
   served = subst (λ (e : EngineState). length e.done ≡ processors e.plan.unit) (sym begins) (length-replicate (processors plan.unit) 0);
-  ahead = λ processor done there.
-      inl (subst (λ units. done ≡ (if list_any (λ m. m == processor) (take units (round_of k.engine.plan.unit k.engine.script k.cycles)) then k.cycles + 1 else k.cycles)) (sym none_had)
-      (replicated_at 0 (processors plan.unit) processor done (subst (λ (e : EngineState). slice_get e.done processor ≡ Some done) begins there) ∙ sym none_done));
+  exact = λ processor done there.
+      subst (λ units. done ≡ (if list_any (λ m. m == processor) (take units (round_of k.engine.plan.unit k.engine.script k.cycles)) then k.cycles + 1 else k.cycles)) (sym none_had)
+      (replicated_at 0 (processors plan.unit) processor done (subst (λ (e : EngineState). slice_get e.done processor ≡ Some done) begins there) ∙ sym none_done);
   declared = declared ∙ ap (λ (e : EngineState). range_with_len 0 (processors e.plan.unit)) (sym begins);
   turned = subst (λ (e : EngineState). AreTurned e.script.rounds k.turned k.cycles) (sym begins) (subst (AreTurned script.rounds k.turned) (sym none_done) turned);
 }
 
 -- What was told counts for nothing.
-ahead_told : (e : EngineState) (given processor from to : ℕ) → IsAhead e processor from to → IsAhead (record e { given = given }) processor from to
-ahead_told e given processor from to h = elim h [
-  | inl same ↦ inl same
-  | inr c ↦ inr (record { some = c.some; within = c.within; changes = c.changes; first = c.first })
-]
-
 pub stands_told : (k : Inside) (given : ℕ) → KernelStands k → KernelStands (record k { engine = record k.engine { given = given } })
 stands_told k given is = record {
   plan = is.plan;
@@ -51,8 +45,7 @@ stands_told k given is = record {
   units = is.units;
   inside = is.inside;
   served = is.served;
-  ahead = λ processor done there.
-      ahead_told k.engine given processor (if list_any (λ m. m == processor) (take k.units (round_of k.engine.plan.unit k.engine.script k.cycles)) then k.cycles + 1 else k.cycles) done (is.ahead processor done there);
+  exact = is.exact;
   declared = is.declared;
   turned = is.turned;
 }

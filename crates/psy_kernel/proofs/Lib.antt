@@ -66,7 +66,10 @@ mod Unpublished
 mod RoundsInForce
 mod AllDue
 mod Kernels
-mod GoneAhead
+mod Sliced
+mod Exchanged
+mod Idle
+mod RoundsDone
 mod Units
 mod WholeCycles
 pub mod lemmas

@@ -34,7 +34,7 @@ use Rattle.psy_kernel.proofs.MoversGiven.{IsTold, movers_given}
 use Rattle.psy_kernel.proofs.OneAgent.{variable_known}
 use Rattle.psy_kernel.proofs.OtherAgents.{AreSameFor, agent_kept, copy_kept, deeds_kept, deeds_untaken, other_agent, seat_kept, sends_kept, takes_kept}
 use Rattle.psy_kernel.proofs.OwnAgents.{history_on, on_other, on_own, served_pending}
-use Rattle.psy_kernel.proofs.PickIsSoonest.{Front, front_of, soonest_by_pick, soonest_of_nobody}
+use Rattle.psy_kernel.proofs.PickIsSoonest.{Front, front_none, front_of, soonest_by_pick, soonest_of_nobody}
 use Rattle.psy_dates.proofs.lemmas.Sets.{get_set_other, get_set_same}
 
 -- It stands for the history of so many dates, where by agent the cycles of its processor went to these turns
@@ -134,6 +134,12 @@ module _ (s : System) (sizes : Sizes) (code : Code) (until : ℕ) (turns : ℕ �
             sym (own agent of) ∙ AgentStands.ready (p.agents agent runner.0 runner.1))
         | inr more ↦ get_or_past ready agent None (omega (arith, more, as_many)) ∙ sym (ap (deadline_of (turns agent)) (past agent more))
       ]
+
+      -- where nobody waits, no action of its agents is pending
+      pub nobody_pending : ((agent : ℕ) → pending_deadline ready agent ≡ None) → (agent : ℕ) → processor_at s.unit agent ≡ processor → All (λ r. is_pending (turns agent) r ≡ false) (history s dates agent)
+      nobody_pending nobody agent of =
+          front_none (turns agent) (history s dates agent)
+          (subst (Front (turns agent) (history s dates agent)) (sym (waits_is agent of) ∙ nobody agent) (front_of (turns agent) (history s dates agent) (over agent of)))
 
       abbrev its : History
       its = history_on s.unit processor (history s dates)

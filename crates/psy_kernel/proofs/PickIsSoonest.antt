@@ -3,7 +3,7 @@ use Rattle.std.proofs.Common.{◌≡◌, refl, sym, ap, ◌∙◌, subst, inl, i
 use Rattle.std.specs.Prelude.{ℕ, zero, suc, ◌<◌, ◌≤◌, Bool, true, false, nat_le, if◌then◌else◌, List, [], ◌∷◌, ◌++◌, filter, Option, Some, None, slice_get, ⊤}
 use Rattle.std.specs.List.{All}
 use Rattle.std.proofs.lemmas.Bool.{cond-true, cond-false, cond_both, le-leb, lt-leb}
-use Rattle.std.proofs.lemmas.List.Elements.{All-head, All-tail}
+use Rattle.std.proofs.lemmas.List.Elements.{All-cons, All-head, All-tail}
 use Rattle.psy_ready.specs.Choice.{IsPick, NoLater, pending_deadline}
 use Rattle.psy_history.specs.Actions.{Action, History}
 use Rattle.psy_history.specs.Schedule.{Turn, is_pending, pending, sooner, soonest}
@@ -18,6 +18,18 @@ Front turns actions (Some deadline) = (r : Action) × (before : List Action) × 
 none_kept : {X : Type 0} (test : X → Bool) (xs : List X) → All (λ x. test x ≡ false) xs → filter test xs ≡ []
 none_kept test [] h = refl
 none_kept test (x ∷ xs) h = cond-false (test x) (x ∷ filter test xs) (filter test xs) (All-head (λ y. test y ≡ false) x xs h) ∙ none_kept test xs (All-tail (λ y. test y ≡ false) x xs h)
+
+first_off : {X : Type 0} (x : X) (kept : List X) (on : Bool) → (if on then x ∷ kept else kept) ≡ [] → (on ≡ false) × (kept ≡ [])
+first_off x kept true e = absurd (cc)
+first_off x kept false e = (refl, e)
+
+left_none : {X : Type 0} (test : X → Bool) (xs : List X) → filter test xs ≡ [] → All (λ x. test x ≡ false) xs
+left_none test [] e = λ at other less. absurd (omega (arith, less))
+left_none test (x ∷ xs) e = (let off = first_off x (filter test xs) (test x) e in All-cons (λ y. test y ≡ false) x xs off.0 (left_none test xs off.1))
+
+-- Where none is pending, each is finished or stopped.
+pub front_none : (turns : List (Option Turn)) (actions : List Action) → Front turns actions None → All (λ r. is_pending turns r ≡ false) actions
+front_none turns actions e = left_none (is_pending turns) actions e
 
 front_by : (turns : List (Option Turn)) (r : Action) (before : List Action) → filter (is_pending turns) before ≡ [] → (test : Bool) → is_pending turns r ≡ test → Front turns (r ∷ before) (if test then Some r.deadline else None)
 front_by turns r before h true e = (r, before, refl, cond-true (is_pending turns r) (r ∷ filter (is_pending turns) before) (filter (is_pending turns) before) e ∙ ap (λ rest. r ∷ rest) h, e, refl)

@@ -1,6 +1,6 @@
 -- The end of a slice, and the cycles up to it.
 use Rattle.std.proofs.Common.{◌≡◌, ◌≢◌, sym, ap, ◌∙◌, inl, inr, arith}
-use Rattle.std.specs.Prelude.{ℕ, zero, suc, ◌+◌, ◌-◌, ◌*◌, ◌<◌}
+use Rattle.std.specs.Prelude.{ℕ, zero, suc, ◌+◌, ◌-◌, ◌*◌, ◌<◌, ◌≤◌}
 use Rattle.std.proofs.lemmas.Bool.{cases_lt}
 use Rattle.psy_kernel.specs.declared.stage.Stage.TheVariants.{CycleDue}
 use Rattle.psy_kernel.specs.Progress.{Progress, after_cycle, stage_of}
@@ -24,10 +24,19 @@ one_by_one (suc n) p =
     let next : Progress → Progress = after_cycle in
     ap next (one_by_one n p) ∙ ap (λ c. record p { cycles = c }) e
 
-pub as_cycles : (p : Progress) (end : ℕ) → IsSliceEnd p end → record p { cycles = end } ≡ after_cycles (end - p.cycles) p
-as_cycles p end is =
-    let e : end ≡ p.cycles + (end - p.cycles) = omega (arith, is.some) in
+-- Up to a cycle that isn't behind
+pub up_to : (p : Progress) (end : ℕ) → p.cycles ≤ end → record p { cycles = end } ≡ after_cycles (end - p.cycles) p
+up_to p end more =
+    let e : end ≡ p.cycles + (end - p.cycles) = omega (arith, more) in
     ap (λ c. record p { cycles = c }) e ∙ sym (one_by_one (end - p.cycles) p)
+
+pub due_before : (p : Progress) (n : ℕ) → stage_of p ≡ CycleDue p.cycles → p.cycles + n < p.dates * p.plan.unit.quantum → stage_of (after_cycles n p) ≡ CycleDue (p.cycles + n)
+due_before p n due less =
+    let w = cycle_due p due in
+    ap stage_of (one_by_one n p) ∙ cycle_is (record p { cycles = p.cycles + n }) w.0 (λ e. absurd (omega (arith, less, e))) w.2
+
+pub as_cycles : (p : Progress) (end : ℕ) → IsSliceEnd p end → record p { cycles = end } ≡ after_cycles (end - p.cycles) p
+as_cycles p end is = up_to p end (omega (arith, is.some))
 
 pub due_on : (p : Progress) (end n : ℕ) → IsSliceEnd p end → stage_of p ≡ CycleDue p.cycles → p.cycles + n < end → stage_of (after_cycles n p) ≡ CycleDue (p.cycles + n)
 due_on p end n is due less =

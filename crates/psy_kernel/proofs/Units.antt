@@ -6,17 +6,18 @@ use Rattle.std.proofs.lemmas.Bool.{cases_eq, eq-eqb, ne_eqb, or_right}
 use Rattle.std.proofs.lemmas.List.{get_or-take, get_or_default, length-set, length-take-le}
 use Rattle.std.proofs.lemmas.List.Folds.{list_any_at, list_any_more, list_any_none}
 use Rattle.std.proofs.lemmas.Nat.{mul-le}
-use Rattle.std.proofs.lemmas.Option.{get_or_from_slice_get, slice_get_within}
+use Rattle.std.proofs.lemmas.Option.{slice_get-get_or, slice_get_within}
 use Rattle.psy_lists.proofs.lemmas.Tests.{or_false}
 use Rattle.psy_dates.proofs.lemmas.Sets.{get_set_other, get_set_same}
 use Rattle.psy_ready.specs.Choice.{ListsEach}
 use Rattle.psy_history.specs.Processors.{processors}
 use Rattle.psy_history.specs.Scripts.{round_of}
 use Rattle.psy_history.specs.declared.told.Round.{Round}
-use Rattle.psy_kernel.specs.Engines.{EngineState, IsAhead, done_on, next_date}
+use Rattle.psy_kernel.specs.Engines.{EngineState, IsOverOn, done_on, next_date}
 use Rattle.psy_kernel.specs.Kernels.{AreTurned, KernelStands, progress_of, round_by}
 use Rattle.psy_kernel.specs.declared.stage.Stage.TheVariants.{CycleDue, UnitDue}
 use Rattle.psy_kernel.specs.Progress.{Progress, next_processor, stage_of}
+use Rattle.psy_kernel.specs.Slices.{IsOverFor}
 use Rattle.psy_kernel.specs.declared.kernel.Kernel.TheInside.{Inside}
 use Rattle.psy_kernel.proofs.RoundsInForce.{lists_as_many, lists_round, round_in_is}
 use Rattle.psy_kernel.proofs.Stages.{early_until, inside_date, unit_due}
@@ -60,28 +61,6 @@ module _ (n : ℕ) (ns : List ℕ) (lists : ListsEach n ns) (units : ℕ) (some 
       list_any_at (λ m. m == processor) (take (units + 1) ns) there.0 processor (omega (arith, below, length-take-le (units + 1) ns (omega (arith, within))))
       (eq-eqb (get_or (take (units + 1) ns) there.0 processor) processor (get_or-take (units + 1) ns there.0 processor below ∙ there.2))
 
--- ---- a processor that is ahead
-
--- What other processors did counts for nothing.
-pub ahead_still : (e : EngineState) (done : List ℕ) (processor from to : ℕ) → IsAhead e processor from to → IsAhead (record e { done = done }) processor from to
-ahead_still e done processor from to h = elim h [
-  | inl same ↦ inl same
-  | inr c ↦ inr (record { some = c.some; within = c.within; changes = c.changes; first = c.first })
-]
-
--- One that is ahead did its next unit.
-pub ahead_on : (e : EngineState) (processor cycles to : ℕ) → IsAhead e processor cycles to → (to ≡ cycles → ⊥) → IsAhead e processor (cycles + 1) to
-ahead_on e processor cycles to h other = elim h [
-  | inl same ↦ absurd (other same)
-  | inr c ↦ elim (cases_eq to (cycles + 1)) [
-    | inl one ↦ inl one
-    | inr more ↦ inr (record { some = above cycles to c.some more; within = c.within; changes = c.changes; first = λ between above below. c.first between (omega (arith, above)) below })
-  ]
-]
-  where
-    above : (a b : ℕ) → a < b → (b ≡ a + 1 → ⊥) → a + 1 < b
-    above a b less other = grind (arith, less, other)
-
 -- ---- a kernel's round
 
 pub round_is : (k : Inside) → KernelStands k → (declared : List ℕ) → declared ≡ k.declared.items → (rounds : List Round) → rounds ≡ k.engine.script.rounds → (round : List ℕ) → round ≡ round_by declared rounds k.turned → round ≡ round_of k.engine.plan.unit k.engine.script k.cycles
@@ -99,7 +78,7 @@ unit_place k is = within (processors k.engine.plan.unit) (round_of k.engine.plan
 -- The processor whose unit is due did it, and what the others did is what it was.
 pub record HasUnit (k : Inside) (done : List ℕ) : Type 0 where
   pub as_many : length done ≡ length k.engine.done
-  pub own : (count : ℕ) → slice_get done (next_processor (progress_of k)) ≡ Some count → IsAhead k.engine (next_processor (progress_of k)) (k.cycles + 1) count
+  pub own : (count : ℕ) → slice_get done (next_processor (progress_of k)) ≡ Some count → count ≡ k.cycles + 1
   pub others : (processor : ℕ) → (processor ≡ next_processor (progress_of k) → ⊥) → slice_get done processor ≡ slice_get k.engine.done processor
 
 module _ (k : Inside) (is : KernelStands k) where
@@ -109,45 +88,35 @@ module _ (k : Inside) (is : KernelStands k) where
   pub next_within : next_processor (progress_of k) < processors k.engine.plan.unit
   next_within = next_known (processors k.engine.plan.unit) (round_of k.engine.plan.unit k.engine.script k.cycles) lists k.units is.units
 
-  next_ahead : (count : ℕ) → slice_get k.engine.done (next_processor (progress_of k)) ≡ Some count → IsAhead k.engine (next_processor (progress_of k)) k.cycles count
-  next_ahead count there =
-      subst (λ b. IsAhead k.engine (next_processor (progress_of k)) (if b then k.cycles + 1 else k.cycles) count)
-      (not_yet (processors k.engine.plan.unit) (round_of k.engine.plan.unit k.engine.script k.cycles) lists k.units is.units) (is.ahead (next_processor (progress_of k)) count there)
+  pub next_exact : (count : ℕ) → slice_get k.engine.done (next_processor (progress_of k)) ≡ Some count → count ≡ k.cycles
+  next_exact count there =
+      subst (λ b. count ≡ (if b then k.cycles + 1 else k.cycles))
+      (not_yet (processors k.engine.plan.unit) (round_of k.engine.plan.unit k.engine.script k.cycles) lists k.units is.units) (is.exact (next_processor (progress_of k)) count there)
 
-  -- A processor that just did the cycles did one more,
+  -- It did one more.
   pub given_unit : (processor : ℕ) → processor ≡ next_processor (progress_of k) → (to : ℕ) → k.cycles < to → to ≤ k.cycles + 1 → HasUnit k (slice_set k.engine.done processor to)
   given_unit processor next to above high = record {
     as_many = length-set k.engine.done processor to;
     own = λ count there.
-        inl (get_set_same k.engine.done processor to count (subst (λ q. slice_get (slice_set k.engine.done processor to) q ≡ Some count) (sym next) there) ∙ one);
+        get_set_same k.engine.done processor to count (subst (λ q. slice_get (slice_set k.engine.done processor to) q ≡ Some count) (sym next) there) ∙ one;
     others = λ other differs. get_set_other k.engine.done processor other to (λ same. differs (same ∙ next));
   }
     where
       one : to ≡ k.cycles + 1
       one = omega (arith, above, high)
 
-  -- and one that is ahead did it before.
-  pub had_unit : (processor : ℕ) → processor ≡ next_processor (progress_of k) → (get_or k.engine.done processor 0 ≡ k.cycles → ⊥) → HasUnit k k.engine.done
-  had_unit processor next other = record {
-    as_many = refl;
-    own = λ count there.
-        ahead_on k.engine (next_processor (progress_of k)) k.cycles count (next_ahead count there)
-        (λ same. other (ap (λ q. get_or k.engine.done q 0) next ∙ get_or_from_slice_get k.engine.done (next_processor (progress_of k)) count 0 there ∙ same));
-    others = λ processor differs. refl;
-  }
-
   module _ (date : ℕ) (inside : IsInside k.engine.plan.unit.quantum k.engine.plan.until k.engine.dates k.cycles date) (done : List ℕ) (did : HasUnit k done) where
-    ahead_by : (processor count : ℕ) → slice_get done processor ≡ Some count
-        → IsAhead k.engine processor (if list_any (λ m. m == processor) (take (k.units + 1) (round_of k.engine.plan.unit k.engine.script k.cycles)) then k.cycles + 1 else k.cycles) count
-    ahead_by processor count there = elim (cases_eq processor (next_processor (progress_of k))) [
+    exact_by : (processor count : ℕ) → slice_get done processor ≡ Some count
+        → count ≡ (if list_any (λ m. m == processor) (take (k.units + 1) (round_of k.engine.plan.unit k.engine.script k.cycles)) then k.cycles + 1 else k.cycles)
+    exact_by processor count there = elim (cases_eq processor (next_processor (progress_of k))) [
       | inl same ↦
-          subst (λ q. slice_get done q ≡ Some count → IsAhead k.engine q (if list_any (λ m. m == q) (take (k.units + 1) (round_of k.engine.plan.unit k.engine.script k.cycles)) then k.cycles + 1 else k.cycles) count) (sym same)
-          (λ at. subst (λ b. IsAhead k.engine (next_processor (progress_of k)) (if b then k.cycles + 1 else k.cycles) count)
+          subst (λ q. slice_get done q ≡ Some count → count ≡ (if list_any (λ m. m == q) (take (k.units + 1) (round_of k.engine.plan.unit k.engine.script k.cycles)) then k.cycles + 1 else k.cycles)) (sym same)
+          (λ at. subst (λ b. count ≡ (if b then k.cycles + 1 else k.cycles))
           (sym (has_it (processors k.engine.plan.unit) (round_of k.engine.plan.unit k.engine.script k.cycles) lists k.units is.units)) (did.own count at)) there
       | inr other ↦
-          subst (λ b. IsAhead k.engine processor (if b then k.cycles + 1 else k.cycles) count)
+          subst (λ b. count ≡ (if b then k.cycles + 1 else k.cycles))
           (sym (as_before (processors k.engine.plan.unit) (round_of k.engine.plan.unit k.engine.script k.cycles) lists k.units is.units processor other))
-          (is.ahead processor count (sym (did.others processor other) ∙ there))
+          (is.exact processor count (sym (did.others processor other) ∙ there))
     ]
 
     due : k.cycles < next_date k.engine
@@ -162,8 +131,7 @@ module _ (k : Inside) (is : KernelStands k) where
       units = below k.units (processors k.engine.plan.unit) is.units more;
       inside = λ some. due;
       served = did.as_many ∙ is.served;
-      ahead = λ processor count there.
-          ahead_still k.engine done processor (if list_any (λ m. m == processor) (take (k.units + 1) (round_of k.engine.plan.unit k.engine.script k.cycles)) then k.cycles + 1 else k.cycles) count (ahead_by processor count there);
+      exact = exact_by;
       declared = is.declared;
       turned = is.turned;
     }
@@ -180,10 +148,10 @@ module _ (k : Inside) (is : KernelStands k) where
       units = omega (arith, is.units);
       inside = λ some. absurd (omega (arith, some));
       served = did.as_many ∙ is.served;
-      ahead = λ processor count there. ahead_still k.engine done processor (k.cycles + 1) count
-          (subst (λ b. IsAhead k.engine processor (if b then k.cycles + 1 else k.cycles) count)
+      exact = λ processor count there.
+          subst (λ b. count ≡ (if b then k.cycles + 1 else k.cycles))
           (all_have (processors k.engine.plan.unit) (round_of k.engine.plan.unit k.engine.script k.cycles) lists k.units is.units last processor (omega (arith, slice_get_within done processor count there, did.as_many, is.served)))
-          (ahead_by processor count there));
+          (exact_by processor count there);
       declared = is.declared;
       turned = now;
     }
@@ -197,16 +165,29 @@ pub record IsBehindUnit (k now : Inside) : Type 0 where
   pub is : now ≡ record k { engine = record k.engine { done = done } }
 
 module _ (k : Inside) (is : KernelStands k) (processor : ℕ) (next : processor ≡ next_processor (progress_of k)) where
-  pub behind_given : done_on k.engine processor ≡ k.cycles → (engine : EngineState) → engine ≡ record k.engine { done = slice_set k.engine.done processor (done_on engine processor) }
+  -- it did the cycles
+  pub just : done_on k.engine processor ≡ k.cycles
+  just = next_exact k is (done_on k.engine processor) (subst (λ q. slice_get k.engine.done q ≡ Some (done_on k.engine processor)) next (slice_get-get_or k.engine.done processor 0 (omega (arith, next, next_within k is, is.served))))
+
+  pub behind_given : (engine : EngineState) → engine ≡ record k.engine { done = slice_set k.engine.done processor (done_on engine processor) }
       → (done_on k.engine processor < done_on engine processor) × (done_on engine processor ≤ done_on k.engine processor + 1) → (now : Inside) → now ≡ record k { engine = engine } → IsBehindUnit k now
-  behind_given just engine state count now e = record {
+  behind_given engine state count now e = record {
     done = slice_set k.engine.done processor (done_on engine processor);
     did = given_unit k is processor next (done_on engine processor) (omega (arith, just, count.0)) (omega (arith, just, count.1));
     is = e ∙ ap (λ (i : EngineState). record k { engine = i }) state;
   }
 
-  pub behind_had : (done_on k.engine processor ≡ k.cycles → ⊥) → (now : Inside) → now ≡ k → IsBehindUnit k now
-  behind_had other now e = record { done = k.engine.done; did = had_unit k is processor next other; is = e }
+  pub one_more : (engine : EngineState) → (done_on k.engine processor < done_on engine processor) × (done_on engine processor ≤ done_on k.engine processor + 1) → done_on engine processor ≡ k.cycles + 1
+  one_more engine count = omega (arith, just, count.0, count.1)
+
+-- An action is over with the unit where it is with the processor's cycle.
+module _ (k : Inside) (p : Progress) (view : progress_of k ≡ p) (processor : ℕ) (next : processor ≡ next_processor p) (engine : EngineState) (one : done_on engine processor ≡ k.cycles + 1) where
+  pub unit_over : IsOverOn k.engine processor (done_on engine processor) → IsOverFor p (next_processor p) (p.cycles + 1)
+  unit_over over = subst (λ n. IsOverFor p n (p.cycles + 1)) next (subst (λ (q : Progress). IsOverFor q processor (q.cycles + 1)) view (subst (λ n. IsOverOn k.engine processor n) one over))
+
+  pub unit_goes : (IsOverOn k.engine processor (done_on engine processor) → ⊥) → IsOverFor p (next_processor p) (p.cycles + 1) → ⊥
+  unit_goes goes over =
+      goes (subst (λ n. IsOverOn k.engine processor n) (sym one) (subst (λ (q : Progress). IsOverFor q processor (q.cycles + 1)) (sym view) (subst (λ n. IsOverFor p n (p.cycles + 1)) (sym next) over)))
 
 module _ (k : Inside) (is : KernelStands k) (p : Progress) (view : progress_of k ≡ p) (due : (stage_of p ≡ CycleDue p.cycles) ⊎ (stage_of p ≡ UnitDue p.cycles (next_processor p))) where
   due_in : (k.engine.dates ≡ k.engine.plan.until + 1 → ⊥) × (k.cycles ≡ k.engine.dates * k.engine.plan.unit.quantum → ⊥)
@@ -224,9 +205,6 @@ module _ (k : Inside) (is : KernelStands k) (p : Progress) (view : progress_of k
   module _ (now : Inside) (behind : IsBehindUnit k now) where
     pub units_kept : now.units ≡ k.units
     units_kept = ap (λ (i : Inside). i.units) behind.is
-
-    pub cycles_kept : now.cycles ≡ k.cycles
-    cycles_kept = ap (λ (i : Inside). i.cycles) behind.is
 
     pub stands_on : (now.units + 1 ≡ processors k.engine.plan.unit → ⊥) → KernelStands (record now { units = now.units + 1 })
     stands_on more =

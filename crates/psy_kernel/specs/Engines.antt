@@ -1,5 +1,5 @@
 -- How far the processors of a run are, each by itself: between two dates one may have done more cycles than another.
-use Rattle.std.specs.Prelude.{◌≡◌, ◌⊎◌, ℕ, zero, suc, ◌-◌, ◌*◌, ◌<◌, ◌≤◌, true, false, nat_lt, if◌then◌else◌}
+use Rattle.std.specs.Prelude.{◌≡◌, ◌⊎◌, ℕ, zero, suc, ◌-◌, ◌*◌, true, false, nat_lt, if◌then◌else◌}
 use Rattle.std.specs.Prelude.{List, [], get_or, replicate, Option, None, Some, slice_get, ℤ}
 use Rattle.std.specs.List.{Contains}
 use Rattle.psy_history.specs.Actions.{Action, Opening, System}
@@ -68,6 +68,11 @@ abbrev pub IsOverOn : EngineState → ℕ → ℕ → Type 0
 IsOverOn e processor cycles = (agent : ℕ) × (r : Action) × (processor_at e.plan.unit agent ≡ processor) × Contains (history (history_of e) e.dates agent) r
     × (is_pending (turns_on e processor (cycles - 1)) r ≡ true) × (is_pending (turns_on e processor cycles) r ≡ false)
 
+-- Of the actions of a processor's agents none is pending behind the cycles that it did.
+abbrev pub IsIdleOn : EngineState → ℕ → Type 0
+IsIdleOn e processor = (agent : ℕ) (r : Action) → processor_at e.plan.unit agent ≡ processor → Contains (history (history_of e) e.dates agent) r
+    → is_pending (turns_on e processor (done_on e processor)) r ≡ false
+
 -- With the cycle behind so many an order comes into force.
 abbrev pub IsOrderedBy : EngineState → ℕ → Type 0
 IsOrderedBy e cycles = (place : ℕ) × (o : Order) × (slice_get e.script.orders place ≡ Some o) × (o.cycle ≡ cycles)
@@ -75,17 +80,6 @@ IsOrderedBy e cycles = (place : ℕ) × (o : Order) × (slice_get e.script.order
 -- Behind so many cycles of a processor it is asked anew who runs there: the next date is due, an action is over, or another order comes into force.
 abbrev pub ChangesOn : EngineState → ℕ → ℕ → Type 0
 ChangesOn e processor cycles = (cycles ≡ next_date e) ⊎ IsOverOn e processor cycles ⊎ IsOrderedBy e cycles
-
--- From so many cycles of a processor on, it comes to its first change behind so many.
-pub record IsChangeOn (e : EngineState) (processor from to : ℕ) : Type 0 where
-  pub some : from < to
-  pub within : to ≤ next_date e
-  pub changes : ChangesOn e processor to
-  pub first : (between : ℕ) → from < between → between < to → ChangesOn e processor between → ⊥
-
--- A processor that is to have done so many cycles did just these, or is ahead, at its first change behind them.
-abbrev pub IsAhead : EngineState → ℕ → ℕ → ℕ → Type 0
-IsAhead e processor from to = (to ≡ from) ⊎ IsChangeOn e processor from to
 
 -- What is told of the last of so many dates: nothing before the first, nor of a date that was done before
 abbrev pub told_at : System → ℕ → List Event

@@ -1,11 +1,11 @@
--- When a kernel stands for its run: the units of the cycle that comes next, and the processors that are ahead of it.
+-- When a kernel stands for its run: each processor did the cycles done, and its unit of the next one where its turn has come.
 use Rattle.std.specs.Prelude.{◌≡◌, ◌==◌, ℕ, ◌+◌, ◌-◌, ◌<◌, ◌≤◌, if◌then◌else◌, List, get_or, length, Some, slice_get, take}
 use Rattle.std.specs.List.{list_any, range_with_len}
 use Rattle.psy_dates.specs.Plans.{IsPlan}
 use Rattle.psy_history.specs.Processors.{processors}
 use Rattle.psy_history.specs.Scripts.{IsScript, round_of}
 use Rattle.psy_history.specs.declared.told.Round.{Round}
-use Rattle.psy_kernel.specs.Engines.{IsAhead, next_date}
+use Rattle.psy_kernel.specs.Engines.{next_date}
 use Rattle.psy_kernel.specs.Progress.{Progress}
 use Rattle.psy_kernel.specs.Standing.{InTick}
 use Rattle.psy_kernel.specs.declared.kernel.Kernel.TheInside.{Inside}
@@ -41,8 +41,7 @@ pub record AreTurned (rounds : List Round) (turned cycle : ℕ) : Type 0 where
   pub come : (place : ℕ) (r : Round) → slice_get rounds place ≡ Some r → place < turned → r.cycle ≤ cycle
   pub ahead : (place : ℕ) (r : Round) → slice_get rounds place ≡ Some r → turned ≤ place → cycle < r.cycle
 
--- Each processor did the cycles that it is to have done, or is ahead, at its first change behind them; which can be seen nowhere before the others are
--- there too.
+-- A kernel whose processors did just the cycles and units that it counts
 pub record KernelStands (k : Inside) : Type 0 where
   pub plan : IsPlan k.engine.plan
   pub script : IsScript k.engine.plan.unit k.engine.script
@@ -50,6 +49,6 @@ pub record KernelStands (k : Inside) : Type 0 where
   pub units : k.units < processors k.engine.plan.unit
   pub inside : 1 ≤ k.units → k.cycles < next_date k.engine
   pub served : length k.engine.done ≡ processors k.engine.plan.unit
-  pub ahead : (processor done : ℕ) → slice_get k.engine.done processor ≡ Some done → IsAhead k.engine processor (cycles_on (progress_of k) processor) done
+  pub exact : (processor done : ℕ) → slice_get k.engine.done processor ≡ Some done → done ≡ cycles_on (progress_of k) processor
   pub declared : k.declared.items ≡ range_with_len 0 (processors k.engine.plan.unit)
   pub turned : AreTurned k.engine.script.rounds k.turned k.cycles

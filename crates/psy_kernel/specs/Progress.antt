@@ -63,6 +63,10 @@ after_date p = record p { dates = p.dates + 1; given = 0 }
 abbrev pub after_cycle : Progress → Progress
 after_cycle p = record p { cycles = p.cycles + 1 }
 
+-- All cycles before the next date
+abbrev pub up_to_date : Progress → Progress
+up_to_date p = record p { cycles = p.dates * p.plan.unit.quantum }
+
 -- One unit more: that of the last processor ends its cycle.
 abbrev pub after_unit : Progress → Progress
 after_unit p = if p.units + 1 == processors p.plan.unit then record p { cycles = p.cycles + 1; units = 0 } else record p { units = p.units + 1 }

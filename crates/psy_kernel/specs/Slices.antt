@@ -4,7 +4,8 @@ use Rattle.std.specs.List.{Contains}
 use Rattle.psy_history.specs.Actions.{Action}
 use Rattle.psy_history.specs.History.{history}
 use Rattle.psy_history.specs.Schedule.{Turn, is_pending}
-use Rattle.psy_history.specs.Scheduled.{turns_by}
+use Rattle.psy_history.specs.Processors.{processor_at}
+use Rattle.psy_history.specs.Scheduled.{turns_by, turns_of}
 use Rattle.psy_history.specs.declared.told.Order.{Order}
 use Rattle.psy_kernel.specs.Progress.{Progress, after_cycle, after_unit, order, system}
 
@@ -16,6 +17,17 @@ turns_at p cycles agent = turns_by (system p) (order p) cycles agent
 abbrev pub IsOverBy : Progress → ℕ → Type 0
 IsOverBy p cycles = (agent : ℕ) × (r : Action) × Contains (history (system p) p.dates agent) r
     × (is_pending (turns_at p (cycles - 1) agent) r ≡ true) × (is_pending (turns_at p cycles agent) r ≡ false)
+
+-- The same for an action of this processor
+abbrev pub IsOverFor : Progress → ℕ → ℕ → Type 0
+IsOverFor p processor cycles = (agent : ℕ) × (r : Action) × (processor_at p.plan.unit agent ≡ processor) × Contains (history (system p) p.dates agent) r
+    × (is_pending (turns_of (system p) (order p) (cycles - 1) processor) r ≡ true)
+    × (is_pending (turns_of (system p) (order p) cycles processor) r ≡ false)
+
+-- No action of a processor's agents is pending behind the cycles done.
+abbrev pub IsIdleFor : Progress → ℕ → Type 0
+IsIdleFor p processor = (agent : ℕ) (r : Action) → processor_at p.plan.unit agent ≡ processor → Contains (history (system p) p.dates agent) r
+    → is_pending (turns_of (system p) (order p) p.cycles processor) r ≡ false
 
 -- With the cycle behind so many an order comes into force.
 abbrev pub IsOrderedAt : Progress → ℕ → Type 0

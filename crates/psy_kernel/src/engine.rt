@@ -5,6 +5,7 @@ mod ahead;
 mod boot;
 mod cycle;
 mod date;
+mod idle;
 mod lines;
 mod stretch;
 mod summary;

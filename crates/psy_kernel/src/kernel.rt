@@ -6,6 +6,7 @@ mod lines;
 mod round;
 mod slice;
 mod stage;
+mod tick;
 mod unit;
 
 use crate::engine::Engine;
@@ -16,7 +17,7 @@ use std::marker::Model;
 #[derive(Drop)]
 pub struct Kernel {
     engine: Engine,
-    /// How many cycles all processors have done, and how many units of the next one were done: a processor may be ahead of them.
+    /// How many cycles were done, and how many units of the next one.
     cycles: u64,
     units: u32,
     /// From the first processor to the last.

@@ -6,8 +6,6 @@ mod agent;
 mod generator;
 pub mod laws;
 mod lines;
-#[cfg(test)]
-mod tests;
 mod text;
 
 pub use text::make;

@@ -95,6 +95,11 @@ pub record AreCodeSends (instrs : List Instr) (from budget : ℕ) (sends : List 
   pub rise : AllPairs IsWayBefore sends
   pub each : (way : SendWay) → Contains sends way ↔ (IsMostCodeSends instrs from way.to way.stream budget way.most × (1 ≤ way.most))
 
+-- On the ways from a place to each of these points there is a most for each of the first so many streams.
+abbrev pub HaveMosts : List Instr → ℕ → ℕ → ℕ → List ℕ → Type 0
+HaveMosts instrs from budget streams points = (to stream : ℕ) → Contains points to → stream < streams
+    → (most : ℕ) × IsMostCodeSends instrs from to stream budget most
+
 -- ---- of a program
 
 -- The budget of a point of an agent
@@ -119,11 +124,20 @@ pub record AreCodeWays (unit : Whole) (code : Code) (ways : Ways) : Type 0 where
   pub sends : AreByPoint (points_of unit) (λ agent point. AreCodeSends code.instrs (place_of code agent point) (budget_of unit agent point)) ways.sends
   pub delays : AreCodeDelays unit code ways.delays
 
+-- From each point of each agent there is a most to each of these next points for each stream.
+abbrev pub HaveAllMosts : Whole → Code → List (List (List ℕ)) → Type 0
+HaveAllMosts unit code nexts =
+    AreByPoint (points_of unit) (λ agent point. HaveMosts code.instrs (place_of code agent point) (budget_of unit agent point) (length unit.streams)) nexts
+
 -- ---- what can be walked
 
--- What an instruction of an agent names is there: of those that ways are asked for.
+-- The variable, the stream, the clock or the point that an instruction of an agent names is there.
 abbrev pub NamesThere : Whole → AgentDecl → Instr → Type 0
+NamesThere unit agent (instr.LoadCopy variable) = variable < length unit.variables
+NamesThere unit agent (instr.StoreCopy variable) = variable < length unit.variables
 NamesThere unit agent (instr.Past variable back) = variable < length unit.variables
+NamesThere unit agent (instr.Ready stream) = stream < length unit.streams
+NamesThere unit agent (instr.Take stream) = stream < length unit.streams
 NamesThere unit agent (instr.Send stream after clock) = (stream < length unit.streams) × (clock < length unit.clocks)
 NamesThere unit agent (instr.Advance point) = point < length agent.points
 NamesThere unit agent _ = ⊤

@@ -3,8 +3,6 @@
 #![tactic(auto)]
 
 mod queue;
-#[cfg(test)]
-mod tests;
 
 pub use psy_base::Message;
 pub use queue::Queue;

@@ -35,7 +35,7 @@ record IsSplit (graph : List Edge) (node at : ℕ) (path : List Edge) : Type 0 w
   due : due_of path ≡ length_of before + due_of after
 
 -- The nodes where its edges begin
-abbrev starts : List Edge → List ℕ
+abbrev pub starts : List Edge → List ℕ
 starts path = map (λ e. e.from) path
 
 -- An edge before a path that isn't empty is due its length later.
@@ -107,7 +107,7 @@ cut_cases graph node (e ∷ path) is =
     ]
 
 -- Where edges begin is below the number of nodes.
-starts_below : (graph : List Edge) (nodes node : ℕ) (path : List Edge) → All (IsEdge nodes) graph → IsPathFrom graph node path → (q : ℕ) → list_any (eqb q) (starts path) ≡ true → q < nodes
+pub starts_below : (graph : List Edge) (nodes node : ℕ) (path : List Edge) → All (IsEdge nodes) graph → IsPathFrom graph node path → (q : ℕ) → list_any (eqb q) (starts path) ≡ true → q < nodes
 starts_below graph nodes node [] edges is q some = cc
 starts_below graph nodes node (e ∷ path) edges is q some =
     elim (or_cases (eqb q e.from) (list_any (eqb q) (starts path)) some) [

@@ -4,6 +4,7 @@ mod Cuts
 mod Demands
 mod Excesses
 mod Existence
+mod Followed
 mod Goings
 mod GroupHorizons
 mod LeastCovers

@@ -3,9 +3,10 @@
 use Rattle.std.specs.Prelude.{◌≡◌, ◌⊎◌, ℕ, ◌-◌, ◌*◌, ◌≤◌, List, All}
 use Rattle.std.specs.List.{Contains, sum_by}
 use Rattle.psy_base.specs.declared.edge.Edge.{Edge}
-use Rattle.psy_meaning.specs.Demand.{IsDemand, Suffices}
+use Rattle.psy_meaning.specs.Demand.{Suffices}
 use Rattle.psy_rate.specs.declared.line.Rate.{Rate}
 use Rattle.psy_rate.specs.declared.line.TheConstants.{SCALE}
+use Rattle.psy_window.specs.Windows.{IsEdge}
 
 -- The sums of a group's rates and of its intercepts
 abbrev pub rate_of : List Rate → ℕ
@@ -32,6 +33,6 @@ pub record IsHorizon (quantum : ℕ) (groups : List (List Rate)) (length : ℕ) 
 abbrev pub AreFeasible : List (List (List Edge)) → ℕ → ℕ → Type 0
 AreFeasible groups quantum top = (length : ℕ) → 1 ≤ length → length ≤ top → All (λ graphs. Suffices graphs quantum length) groups
 
--- Each group has a demand over each length.
-abbrev pub HaveDemands : List (List (List Edge)) → Type 0
-HaveDemands groups = All (λ graphs. (length : ℕ) → (demand : ℕ) × IsDemand graphs length demand) groups
+-- The edges of each graph lead from node to node.
+abbrev pub AreDrawn : List (List (List Edge)) → Type 0
+AreDrawn groups = All (All (λ graph. (nodes : ℕ) × All (IsEdge nodes) graph)) groups

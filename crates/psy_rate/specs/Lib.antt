@@ -1,4 +1,5 @@
 -- The definitions of this crate, by subject.
+pub mod Followed
 pub mod Horizons
 pub mod Lines
 pub mod Rows

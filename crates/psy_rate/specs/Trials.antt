@@ -1,8 +1,8 @@
 -- What is found where a number is tried as the rate of a graph.
-use Rattle.std.specs.Prelude.{◌≡◌, ℕ, ◌*◌, ◌<◌, List}
+use Rattle.std.specs.Prelude.{ℕ, ◌*◌, ◌<◌, List}
 use Rattle.psy_base.specs.declared.edge.Edge.{Edge}
-use Rattle.psy_base.specs.Paths.{IsPathFrom, weight_of, length_of}
-use Rattle.psy_rate.specs.Lines.{IsClosed, Allows, IsIntercept, end_of}
+use Rattle.psy_base.specs.Paths.{weight_of, length_of}
+use Rattle.psy_rate.specs.Lines.{IsClosed, Allows, IsIntercept}
 use Rattle.psy_rate.specs.declared.line.TheConstants.{SCALE}
 use Rattle.psy_rate.specs.declared.rates.Trial.{Trial}
 use Rattle.psy_rate.specs.declared.rates.Trial.TheVariants.{Allowed, Passed}
@@ -13,14 +13,6 @@ pub record IsPassed (graph : List Edge) (rate next : ℕ) : Type 0 where
   pub path : List Edge
   pub closed : IsClosed graph path
   pub passes : (less : ℕ) → less < next → less * length_of path < SCALE * weight_of path
-
--- A path from a node to another, with its weight and its length
-pub record IsWalk (graph : List Edge) (start node weight length : ℕ) : Type 0 where
-  pub path : List Edge
-  pub is_path : IsPathFrom graph start path
-  pub end : end_of start path ≡ node
-  pub weighs : weight_of path ≡ weight
-  pub lasts : length_of path ≡ length
 
 -- The number is allowed, with this intercept, or a closed path passes each below this one.
 abbrev pub IsTrial : List Edge → ℕ → Trial → Type 0

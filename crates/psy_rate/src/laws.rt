@@ -6,19 +6,22 @@ ghost use Rattle.psy_base.specs.declared.limits.TheConstants.{EDGES};
 ghost use Rattle.psy_meaning.specs.Demand.{IsDemand, edges_on};
 ghost use Rattle.psy_rate.specs.declared.line.Rate.{Rate};
 ghost use Rattle.psy_rate.specs.Lines.{IsRateOf, AreRates, AreAll, lines_on};
-ghost use Rattle.psy_rate.specs.Horizons.{rate_of, intercept_of, Covers, IsHorizonOf, IsHorizon, AreFeasible, HaveDemands};
+ghost use Rattle.psy_rate.specs.Horizons.{rate_of, intercept_of, Covers, IsHorizonOf, IsHorizon, AreDrawn, AreFeasible};
 ghost use Rattle.psy_window.specs.Windows.{IsEdge};
 
 use crate::line::SCALE;
+use psy_window::laws::greatest;
 
 /// The demand over each length is at most the sum of the lines. So where the supply suffices over each length up to the
 /// horizon, it suffices over every length.
 pub fn always()
     ensures line { (graphs : List (List Edge)) (lines : List Rate) (length demand : ℕ) → AreRates graphs lines → IsDemand graphs length demand
         → demand * SCALE ≤ rate_of lines * length + intercept_of lines }
-    ensures every { (groups : List (List (List Edge))) (lines : List (List Rate)) (quantum horizon : ℕ) → HaveDemands groups → AreAll groups lines
+    ensures every { (groups : List (List (List Edge))) (lines : List (List Rate)) (quantum horizon : ℕ) → AreDrawn groups → AreAll groups lines
         → IsHorizon quantum lines horizon → AreFeasible groups quantum horizon → (top : ℕ) → AreFeasible groups quantum top }
-{}
+{
+    greatest();
+}
 
 /// The graph of an agent has one line, and so have the graphs of a processor's agents.
 pub fn rates()

@@ -1,13 +1,13 @@
 -- The pending agent of least deadline that stands first in an order.
-use Rattle.std.proofs.Common.{◌≡◌, ◌⊎◌, ℕ, ◌<◌, ◌≤◌, List, length, get_or, slice_get, Option, Some, None, refl, sym, ap, ◌∙◌, subst, inl, inr, arith}
-use Rattle.std.specs.Prelude.{◌≢◌, MatchOption}
+use Rattle.std.proofs.Common.{◌≡◌, ◌⊎◌, ℕ, ◌<◌, ◌≤◌, List, length, get_or, slice_get, take, Option, Some, refl, sym, ap, ◌∙◌, subst, inl, inr, arith}
 use Rattle.std.proofs.lemmas.Bool.{cases_order, cases_lt, cases_eq}
 use Rattle.std.proofs.lemmas.Option.{slice_get-get_or, get_or_from_slice_get}
-use Rattle.std.proofs.lemmas.List.{get_or_default}
-use Rattle.std.specs.List.{Contains}
+use Rattle.std.proofs.lemmas.List.{get_or_default, get_or-take, length-take-le}
+use Rattle.std.specs.List.{All, Contains}
+use Rattle.std.specs.List.Sorted.{IsPartitionPoint}
 use Rattle.psy_ready.specs.declared.ready.Pending.{Pending}
 use Rattle.psy_ready.specs.Choice.{IsPick, ListsEach, NoLater, pending_deadline}
-use Rattle.psy_ready.specs.Standing.{AreSorted, IsFirstDue}
+use Rattle.psy_ready.specs.Standing.{AreSorted, IsFirstPlace}
 use Rattle.psy_ready.proofs.Sorts.{inside_where}
 
 module _ (deadlines : List (Option ℕ)) (sorted : List Pending) (is : AreSorted deadlines sorted) where
@@ -52,23 +52,57 @@ module _ (deadlines : List (Option ℕ)) (sorted : List Pending) (is : AreSorted
           (λ k e more less _. inl (later k e more less)) a d due here;
     }
 
-    pub pick_first_due : (agent : ℕ) → IsFirstDue deadlines order f.deadline agent → IsPick deadlines order agent
-    pick_first_due agent h = record {
-      place = h.place;
-      deadline = f.deadline;
-      at = h.at;
-      is_pending = h.due;
-      first = λ p a d here due. elim (cases_order f.deadline d) [
-        | inl same ↦ inr (same, elim (cases_lt p h.place) [ inl less ↦ absurd (h.first p a less here (due ∙ ap (λ (e : ℕ). Some e) (sym same))) | inr more ↦ more ])
-        | inr other ↦ elim other [ inl first ↦ inl first | inr last ↦ absurd (omega (arith, last, least a d due)) ]
-      ];
-    }
+    -- those up to where it is that are due then
+    module _ (k : ℕ) (point : IsPartitionPoint (λ (p : Pending). p.deadline ≤ f.deadline) (λ (p : Pending). f.deadline < p.deadline) sorted k) (within : k ≤ length sorted) where
+      abbrev due_first : List Pending
+      due_first = take k sorted
 
-    -- One that is due then is found.
-    pub pick_found : (found : Option ℕ) → MatchOption found ((p agent : ℕ) → slice_get order p ≡ Some agent → pending_deadline deadlines agent ≢ Some f.deadline) (IsFirstDue deadlines order f.deadline)
-        → MatchOption found ((agent : ℕ) → pending_deadline deadlines agent ≡ None) (IsPick deadlines order)
-    pick_found None h = absurd (h standing.0 f.agent stands first_pends)
-    pick_found (Some agent) h = pick_first_due agent h
+      -- the place among all of one that is due then
+      in_sorted : (p : Pending) (has : Contains due_first p) → (has.0 < k) × (get_or sorted has.0 p ≡ p)
+      in_sorted p has =
+          let less : has.0 < k = omega (arith, has.1, length-take-le k sorted within) in
+          (less, sym (get_or-take k sorted has.0 p less) ∙ has.2)
+
+      pends : (p : Pending) → Contains due_first p → pending_deadline deadlines p.agent ≡ Some p.deadline
+      pends p has =
+          let there = in_sorted p has in
+          subst (λ (q : Pending). pending_deadline deadlines q.agent ≡ Some q.deadline) there.1 (is.pending has.0 p (omega (arith, there.0, within)))
+
+      same_due : (p : Pending) → Contains due_first p → p.deadline ≡ f.deadline
+      same_due p has =
+          let there = in_sorted p has in
+          let no_later : p.deadline ≤ f.deadline = subst (λ (q : Pending). q.deadline ≤ f.deadline) there.1 (point.0 has.0 p (omega arith) there.0) in
+          omega (arith, no_later, least p.agent p.deadline (pends p has))
+
+      -- one that is due then is among them
+      in_front : (a d : ℕ) → pending_deadline deadlines a ≡ Some d → f.deadline ≡ d → Contains due_first (record { agent = a; deadline = d })
+      in_front a d due same =
+          let x : Pending = record { agent = a; deadline = d } in
+          let has : Contains sorted x = is.each a d due in
+          elim (cases_lt has.0 k) [
+            | inl less ↦ (has.0, omega (arith, less, length-take-le k sorted within), get_or-take k sorted has.0 x less ∙ has.2)
+            | inr past ↦ absurd (let later : f.deadline < d = subst (λ (q : Pending). f.deadline < q.deadline) has.2 (point.1 has.0 x past has.1) in omega (arith, later, same))
+          ]
+
+      -- The order lists each of them.
+      pub each_listed : All (λ (p : Pending). Contains order p.agent) due_first
+      each_listed j d less = lists.each (get_or due_first j d).agent (inside_where deadlines (get_or due_first j d).agent (get_or due_first j d).deadline
+          (pends (get_or due_first j d) (j, less, get_or_default due_first j (get_or due_first j d) d less)))
+
+      -- The first of them in the order is picked.
+      pub pick_first : (place : ℕ) → IsFirstPlace due_first order place → IsPick deadlines order (get_or order place 0)
+      pick_first place h =
+          let agent : get_or order place 0 ≡ h.one.agent = get_or_from_slice_get order place h.one.agent 0 h.at in
+          record {
+            place = place;
+            deadline = f.deadline;
+            at = h.at ∙ ap (λ (a : ℕ). Some a) (sym agent);
+            is_pending = ap (pending_deadline deadlines) agent ∙ pends h.one h.among ∙ ap (λ (d : ℕ). Some d) (same_due h.one h.among);
+            first = λ p a d here due. elim (cases_order f.deadline d) [
+              | inl same ↦ inr (same, h.first p (record { agent = a; deadline = d }) (in_front a d due same) here)
+              | inr other ↦ elim other [ inl first ↦ inl first | inr last ↦ absurd (omega (arith, last, least a d due)) ]
+            ];
+          }
 
 -- The first of those listed is picked where it is alone, or the next one is due later.
 pub pick_front : (deadlines : List (Option ℕ)) (sorted : List Pending) (order : List ℕ) (nothing : Pending) → AreSorted deadlines sorted → ListsEach (length deadlines) order → 0 < length sorted

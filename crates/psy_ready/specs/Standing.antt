@@ -1,5 +1,5 @@
 -- What the fields of the pending agents stand for.
-use Rattle.std.specs.Prelude.{ℕ, ◌≡◌, ◌≢◌, ◌+◌, ◌<◌, ◌≤◌, List, length, Option, Some, None, slice_get, vec_capacity}
+use Rattle.std.specs.Prelude.{ℕ, ◌≡◌, ◌≢◌, ◌+◌, ◌≤◌, List, length, Option, Some, None, slice_get, vec_capacity}
 use Rattle.std.specs.List.{All, AllPairs, Contains, sum_by}
 use Rattle.psy_ready.specs.declared.ready.Pending.{Pending}
 use Rattle.psy_ready.specs.declared.ready.Ready.TheInside.{Inside}
@@ -22,9 +22,9 @@ pub record IsReady (r : Inside) : Type 0 where
   pub sorted : AreSorted r.deadlines.items r.sorted.items
   pub room : length r.sorted.items + sum_by resting r.deadlines.items ≤ vec_capacity r.sorted
 
--- Of the agents of an order that are due at a deadline the first
-pub record IsFirstDue (deadlines : List (Option ℕ)) (order : List ℕ) (deadline agent : ℕ) : Type 0 where
-  pub place : ℕ
-  pub at : slice_get order place ≡ Some agent
-  pub due : pending_deadline deadlines agent ≡ Some deadline
-  pub first : (p a : ℕ) → p < place → slice_get order p ≡ Some a → pending_deadline deadlines a ≢ Some deadline
+-- At this place of an order stands the first of these agents.
+pub record IsFirstPlace (due : List Pending) (order : List ℕ) (place : ℕ) : Type 0 where
+  pub one : Pending
+  pub among : Contains due one
+  pub at : slice_get order place ≡ Some one.agent
+  pub first : (p : ℕ) (other : Pending) → Contains due other → slice_get order p ≡ Some other.agent → place ≤ p

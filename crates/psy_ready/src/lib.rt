@@ -3,7 +3,5 @@
 #![tactic(auto)]
 
 mod ready;
-#[cfg(test)]
-mod tests;
 
 pub use ready::Ready;

@@ -1,10 +1,10 @@
 //! The agents that wait for the processor.
-ghost use Rattle.std.specs.Prelude.{◌≡◌, ◌≢◌, ◌==◌, ◌<◌, ◌≤◌, ℕ, Some, None, IfOk, MatchOption, length, replicate, slice_get, slice_set};
-ghost use Rattle.std.specs.List.{AllPairs, position};
+ghost use Rattle.std.specs.Prelude.{◌≡◌, ◌≢◌, ◌==◌, ◌<◌, ◌≤◌, ℕ, Some, None, IfOk, MatchOption, length, nat_lt, replicate, slice_get, slice_set};
+ghost use Rattle.std.specs.List.{All, AllPairs, Contains, position};
 ghost use Rattle.std.specs.List.Sorted.{IsPartitionPoint};
 ghost use Rattle.psy_ready.specs.declared.ready.Pending.{Pending};
 ghost use Rattle.psy_ready.specs.Choice.{IsPick, ListsEach, pending_deadline};
-ghost use Rattle.psy_ready.specs.Standing.{IsFirstDue};
+ghost use Rattle.psy_ready.specs.Standing.{IsFirstPlace};
 
 use psy_base::Memory;
 use std::alloc::Global;
@@ -37,23 +37,31 @@ struct Pending {
     deadline: u64,
 }
 
-/// The deadline of an agent; None where it isn't pending.
-fn pending_deadline(deadlines: &[Option<u64>], agent: u32) -> Option<u64>
-    ensures { result ≡ pending_deadline deadlines.now agent }
-{
-    match deadlines.get(agent as usize) {
-        Some(deadline) => *deadline,
-        None => None,
-    }
-}
-
-/// How many of the pending agents are due no later than so.
+/// How many of the pending agents are due no later than so, by a binary search.
 fn no_later(sorted: &[Pending], deadline: u64) -> usize
     requires { AllPairs (λ (p q : Pending). p.deadline ≤ q.deadline) sorted.now }
     ensures point { IsPartitionPoint (λ (p : Pending). p.deadline ≤ deadline) (λ (p : Pending). deadline < p.deadline) sorted.now result }
     ensures within { result ≤ length sorted.now }
 {
     sorted.partition_point(|pending| pending.deadline <= deadline)
+}
+
+/// The first place at which one is due later than so.
+fn first_later(sorted: &[Pending], deadline: u64) -> Option<usize>
+    ensures { result ≡ position (λ (p : Pending). nat_lt deadline p.deadline) sorted.now }
+{
+    sorted
+        .iter()
+        .position(|pending| deadline < pending.deadline)
+}
+
+/// How many are due no later than so, counted from the front.
+fn front_len(sorted: &[Pending], deadline: u64) -> usize
+    requires { AllPairs (λ (p q : Pending). p.deadline ≤ q.deadline) sorted.now }
+    ensures point { IsPartitionPoint (λ (p : Pending). p.deadline ≤ deadline) (λ (p : Pending). deadline < p.deadline) sorted.now result }
+    ensures within { result ≤ length sorted.now }
+{
+    first_later(sorted, deadline).unwrap_or(sorted.len())
 }
 
 /// Where an agent stands among the pending ones.
@@ -63,18 +71,38 @@ fn place_of(sorted: &[Pending], agent: u32) -> Option<usize>
     sorted.iter().position(|pending| pending.agent == agent)
 }
 
-/// The first agent of an order that is due at a deadline.
-fn first_due(deadlines: &[Option<u64>], order: &[u32], deadline: u64) -> Option<u32>
-    ensures { MatchOption result
-        ((p agent : ℕ) → slice_get order.now p ≡ Some agent → pending_deadline deadlines.now agent ≢ Some deadline)
-        (λ agent. IsFirstDue deadlines.now order.now deadline agent) }
+/// Where an agent stands in an order, as a search finds it.
+fn found_in(order: &[u32], agent: u32) -> Option<usize>
+    ensures { result ≡ position (λ (n : ℕ). n == agent) order.now }
 {
-    for agent in order {
-        if pending_deadline(deadlines, *agent) == Some(deadline) {
-            return Some(*agent);
-        }
+    order.iter().position(|listed| *listed == agent)
+}
+
+/// Where an agent stands in an order that lists it: at its own number, as in the order of declaration, or where a search finds it.
+fn place_in(order: &[u32], agent: u32) -> usize
+    requires { Contains order.now agent }
+    ensures { slice_get order.now result ≡ Some agent }
+{
+    let own = agent as usize;
+    if own < order.len() && order[own] == agent {
+        return own;
     }
-    None
+    found_in(order, agent).unwrap_or(0)
+}
+
+/// Where in an order the first of some agents stands.
+fn first_place(due: &[Pending], order: &[u32]) -> usize
+    requires some { 0 < length due.now }
+    requires listed { All (λ (p : Pending). Contains order.now p.agent) due.now }
+    requires once { AllPairs (λ (a b : ℕ). a ≢ b) order.now }
+    ensures place { IsFirstPlace due.now order.now result }
+    ensures within { result < length order.now }
+{
+    let mut least = order.len();
+    for pending in due {
+        least = least.min(place_in(order, pending.agent));
+    }
+    least
 }
 
 impl Ready {
@@ -129,6 +157,7 @@ impl Ready {
         if sorted.len() == 1 || first.deadline < sorted[1].deadline {
             return Some(first.agent);
         }
-        first_due(self.deadlines.as_slice(), order, first.deadline)
+        let (due, _) = sorted.split_at(front_len(sorted, first.deadline));
+        Some(order[first_place(due, order)])
     }
 }

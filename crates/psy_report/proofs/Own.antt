@@ -6,10 +6,10 @@ use Rattle.std.proofs.lemmas.Bool.{eq-eqb, ne_eqb}
 use Rattle.std.proofs.lemmas.Grind.{flat_map-append}
 use Rattle.std.proofs.lemmas.List.Elements.{filter-append}
 use Rattle.psy_lists.proofs.lemmas.Ranges.{range_more}
-use Rattle.psy_demand.specs.Demand.{demand_of}
 use Rattle.psy_history.specs.Processors.{processor_at}
 use Rattle.psy_tree.specs.declared.unit.Unit.{Unit as Whole}
 use Rattle.psy_tree.specs.Parts.{homes}
+use Rattle.psy_report.specs.Tightness.{demand_of}
 
 module _ (unit : Whole) (lists : List (List ℕ)) (processor within agent : ℕ) where
   -- An agent of the processor demands what its list has,

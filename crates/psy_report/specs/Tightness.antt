@@ -1,7 +1,7 @@
 -- The length over which the least of a supply is left by a demand, or over which the most is missing. Numbers are natural, so what would be subtracted
 -- stands on the other side. A demand is told by its length.
-use Rattle.std.specs.Prelude.{◌≡◌, ℕ, ◌+◌, ◌*◌, ◌==◌, ◌<◌, ◌≤◌, if◌then◌else◌, List, get_or, length}
-use Rattle.psy_demand.specs.Demand.{demand}
+use Rattle.std.specs.Prelude.{◌≡◌, ℕ, ◌+◌, ◌*◌, ◌==◌, ◌<◌, ◌≤◌, if◌then◌else◌, List, [], get_or, length, slice_index}
+use Rattle.std.specs.List.{range_with_len, sum_by}
 use Rattle.psy_history.specs.Processors.{processors}
 use Rattle.psy_tree.specs.declared.unit.Unit.{Unit as Whole}
 use Rattle.psy_tree.specs.Parts.{homes}
@@ -21,9 +21,13 @@ pub record IsTightest (quantum : ℕ) (demand : ℕ → ℕ) (top length : ℕ) 
   pub most : (other : ℕ) → 1 ≤ other → other ≤ top → IsNoLooser quantum demand length other
   pub first : (less : ℕ) → 1 ≤ less → less < length → IsTighter quantum demand length less
 
+-- What the list of an agent has at a length, where the agent is of this processor
+abbrev pub demand_of : List (List ℕ) → List ℕ → ℕ → ℕ → ℕ → ℕ
+demand_of lists homes processor within agent = if get_or homes agent 0 == processor then slice_index (get_or lists agent []) within else 0
+
 -- The demand on a processor of a program: the sum of what the lists of its own agents have at a length
 abbrev pub demand_on : Whole → List (List ℕ) → ℕ → ℕ → ℕ
-demand_on unit lists processor = demand lists (homes unit) processor
+demand_on unit lists processor within = sum_by (demand_of lists (homes unit) processor within) (range_with_len 0 (length lists))
 
 -- By processor of a program, the tightest length for the demand of its own agents; none where there is no length
 pub record AreTightest (unit : Whole) (lists : List (List ℕ)) (top : ℕ) (lengths : List ℕ) : Type 0 where

@@ -2,10 +2,9 @@
 ghost use Rattle.std.specs.Prelude.{◌≡◌, ◌+◌, ◌*◌, ◌^◌, ◌<◌, ◌≤◌, IfOk, get_or, length, nat_lt};
 ghost use Rattle.std.specs.List.{All};
 ghost use Rattle.psy_base.specs.declared.limits.TheConstants.{AGENTS, PROCESSORS};
-ghost use Rattle.psy_demand.specs.Demand.{demand_of};
 ghost use Rattle.psy_meaning.specs.Units.{IsBare};
 ghost use Rattle.psy_tree.specs.Parts.{homes};
-ghost use Rattle.psy_report.specs.Tightness.{AreTightest, IsTightest, demand_on};
+ghost use Rattle.psy_report.specs.Tightness.{AreTightest, IsTightest, demand_of, demand_on};
 
 use psy_base::{Items, Memory};
 use psy_history::{processor_of, processors_of};

@@ -4,7 +4,5 @@
 #![tactic(auto)]
 
 mod ring;
-#[cfg(test)]
-mod tests;
 
 pub use ring::Ring;

@@ -140,14 +140,15 @@ compiled_again : (files others : Files) (program again : List ℕ) (unit : Whole
 unfolding in_row
 compiled_again files others program again unit same (bytes, (few, is), made) = (bytes, (few, is ∙ sym same), made)
 
-pub is_runnable : AllBounded → (files others : Files) (checked ran : List (List ℕ)) (program again : List ℕ) (until : ℕ) (inputs script : Option (List ℕ)) (text : List ℕ)
+pub is_runnable : AllBounded → TextsHold → AllMet → (files others : Files) (checked ran : List (List ℕ)) (program again : List ℕ) (until : ℕ) (inputs script : Option (List ℕ)) (text : List ℕ)
     → Asks checked (Check program until) → Answers checked (Some files) 0 text → Asks ran (Run again until inputs script) → bytes_under others again ≡ bytes_under files program
     → IsRunnable ran others again until inputs script
-is_runnable bounded files others checked ran program again until inputs script text asks answers runs same =
+is_runnable bounded of_text met files others checked ran program again until inputs script text asks answers runs same =
     let accepted = accepted_by files checked program until text asks answers in
     let unit = accepted.unit in
     let supply = accepted.supply in
     let made = compiled_again files others program again unit same accepted.made in
+    let its = supply_is met unit until supply (compiled of_text (Some files) program unit accepted.made) accepted.supplied in
     let gives : (lists : List (List ℤ)) (said : Said) → (listing (Some others) unit inputs).gives lists → (scripting (Some others) unit script).gives said → until * unit.quantum ≤ RUN
     → (answering ran (Some others)).gives (Ran unit supply.nexts supply.sizes until lists said) =
     λ lists said listed told fits. gives_then _ _ (Run again until inputs script) _ runs
@@ -157,6 +158,8 @@ is_runnable bounded files others checked ran program again until inputs script t
       nexts = supply.nexts;
       sizes = supply.sizes;
       compiled = made;
+      followed = its.followed;
+      sized = its.sized;
       served = λ lists said listed told fits. record {
         answered = served (Ran unit supply.nexts supply.sizes until lists said) (gives lists said listed told fits);
         bounded = bounded ran (Some others) (Ran unit supply.nexts supply.sizes until lists said) (gives lists said listed told fits);

@@ -6,12 +6,13 @@ use Rattle.psy_meaning.specs.Units.{IsOfText}
 use Rattle.psy_tree.specs.declared.unit.Unit.{Unit as Whole}
 use Rattle.psy_make.specs.Text.{made_text}
 use Rattle.psy_run.specs.declared.refusal.File.TheVariants as file
-use Rattle.psy_run.specs.Answer.{Answers, refused, served, answering, serving, translating, compiling, supplying, listing, scripting, running, checking, drawing, trying}
+use Rattle.psy_run.specs.declared.refusal.Refusal.{Refusal}
+use Rattle.psy_run.specs.Answer.{Answers, refused, served, answering, serving, translating, compiling, supplying, listing, scripting, running, checking, drawing, planning, trying}
 use Rattle.psy_run.specs.Asked.{Command, Run, Check, Graph as Draw, Make, Trial}
 use Rattle.psy_run.specs.Courses.{in_row}
 use Rattle.psy_run.specs.Extents.{length_of}
 use Rattle.psy_run.specs.Refusals.{status_of, line_of}
-use Rattle.psy_run.specs.Services.{Ran, Checked, Drawn, Made, Tried, no_inputs, no_script, text_of}
+use Rattle.psy_run.specs.Services.{Service, Ran, Checked, Drawn, Made, Tried, no_inputs, no_script, text_of}
 use Rattle.psy_run.proofs.AskingForms.{decided_asking}
 use Rattle.psy_run.proofs.Courses.{IsDecided, decided_pure, decided_then}
 use Rattle.psy_run.proofs.DecidedPlans.{decided_graphing, decided_sizing, decided_costing, decided_rating, decided_extending, decided_windowing, decided_demanding, decided_following}
@@ -27,14 +28,11 @@ pub compiled : TextsHold → (files : Option Files) (name : List ℕ) (unit : Wh
 unfolding in_row
 compiled of_text files name unit (bytes, read, made) = translated of_text bytes unit read.0 made
 
-module _ (laws : StepsDecide) (files : Files) where
+module _ (laws : StepsDecide) where
   decided_translating : (bytes : List ℕ) → IsDecided (translating bytes)
   decided_translating bytes = decided_then _ _ (decided_lexing laws bytes) (λ tokens lexed.
       decided_then _ _ (decided_parsing laws tokens) (λ raw parsed.
       decided_resolving laws raw))
-
-  decided_compiling : (name : List ℕ) → IsDecided (compiling (Some files) name)
-  decided_compiling name = decided_then _ _ (decided_reading files file.Program name) (λ bytes read. decided_translating bytes)
 
   decided_supplying : (unit : Whole) (until : ℕ) → IsOfText unit → IsDecided (supplying unit until)
   decided_supplying unit until of = decided_then _ _ (decided_graphing laws unit of) (λ graphs drawn.
@@ -46,6 +44,22 @@ module _ (laws : StepsDecide) (files : Files) where
       decided_then _ _ (decided_demanding laws unit of graphs (length_of extent) drawn) (λ done feasible.
       decided_pure (record { graphs = graphs; nexts = nexts; sizes = sizes; lines = lines; extent = extent }))))))))
 
+  decided_planning : (bytes : List ℕ) (until : ℕ) → length bytes ≤ FILE_BYTES → IsDecided (planning bytes until)
+  decided_planning bytes until few = decided_then _ _ (decided_translating bytes) (λ unit made.
+      decided_then _ _ (decided_supplying unit until (translated laws.of_text bytes unit few made)) (λ supply supplied.
+      decided_pure (Tried unit supply.nexts supply.sizes until)))
+
+  -- The program of a text that is refused is refused in one way, and not planned.
+  pub refused-one : (bytes : List ℕ) (until : ℕ) (refusal : Refusal) → length bytes ≤ FILE_BYTES → (planning bytes until).stops refusal
+      → ((other : Refusal) → (planning bytes until).stops other → other ≡ refusal) × ((done : Service) → (planning bytes until).gives done → ⊥)
+  refused-one bytes until refusal few stops =
+      let one = (decided_planning bytes until few).one in
+      (λ other stops'. one.stop other refusal stops' stops, λ done gives. one.apart done refusal gives stops)
+
+module _ (laws : StepsDecide) (files : Files) where
+  decided_compiling : (name : List ℕ) → IsDecided (compiling (Some files) name)
+  decided_compiling name = decided_then _ _ (decided_reading files file.Program name) (λ bytes read. decided_translating laws bytes)
+
   decided_listing : (unit : Whole) (inputs : Option (List ℕ)) → IsDecided (listing (Some files) unit inputs)
   decided_listing unit None = decided_pure (no_inputs unit)
   decided_listing unit (Some name) = decided_then _ _ (decided_reading files file.Inputs name) (λ bytes read. decided_stating unit bytes)
@@ -56,7 +70,7 @@ module _ (laws : StepsDecide) (files : Files) where
 
   decided_running : (name : List ℕ) (until : ℕ) (inputs script : Option (List ℕ)) → IsDecided (running (Some files) name until inputs script)
   decided_running name until inputs script = decided_then _ _ (decided_compiling name) (λ unit made.
-      decided_then _ _ (decided_supplying unit until (compiled laws.of_text (Some files) name unit made)) (λ supply supplied.
+      decided_then _ _ (decided_supplying laws unit until (compiled laws.of_text (Some files) name unit made)) (λ supply supplied.
       decided_then _ _ (decided_listing unit inputs) (λ lists listed.
       decided_then _ _ (decided_scripting unit script) (λ said scripted.
       decided_then _ _ (decided_pacing unit until) (λ done paced.
@@ -64,7 +78,7 @@ module _ (laws : StepsDecide) (files : Files) where
 
   decided_checking : (name : List ℕ) (until : ℕ) → IsDecided (checking (Some files) name until)
   decided_checking name until = decided_then _ _ (decided_compiling name) (λ unit made.
-      decided_then _ _ (decided_supplying unit until (compiled laws.of_text (Some files) name unit made)) (λ supply supplied.
+      decided_then _ _ (decided_supplying laws unit until (compiled laws.of_text (Some files) name unit made)) (λ supply supplied.
       decided_pure (Checked unit supply.sizes supply.lines supply.extent)))
 
   decided_drawing : (name : List ℕ) → IsDecided (drawing (Some files) name)
@@ -75,8 +89,8 @@ module _ (laws : StepsDecide) (files : Files) where
       decided_pure (Drawn unit graphs costs))))
 
   decided_trying : (seed until : ℕ) → IsDecided (trying seed until)
-  decided_trying seed until = decided_then _ _ (decided_translating (made_text seed)) (λ unit made.
-      decided_then _ _ (decided_supplying unit until (translated laws.of_text (made_text seed) unit (laws.short seed) made)) (λ supply supplied.
+  decided_trying seed until = decided_then _ _ (decided_translating laws (made_text seed)) (λ unit made.
+      decided_then _ _ (decided_supplying laws unit until (translated laws.of_text (made_text seed) unit (laws.short seed) made)) (λ supply supplied.
       decided_then _ _ (decided_pacing unit until) (λ done paced.
       decided_pure (Tried unit supply.nexts supply.sizes until))))
 

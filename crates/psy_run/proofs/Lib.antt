@@ -10,6 +10,7 @@ mod DecidedSteps
 mod Decisions
 mod ExtentLemmas
 mod FittingPlans
+mod KernelPlans
 mod KeptBounds
 mod KeptOrders
 mod LogLemmas

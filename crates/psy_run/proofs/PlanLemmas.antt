@@ -1,7 +1,7 @@
 -- What makes a plan of a program, and what is known of inputs that have no lists.
-use Rattle.std.proofs.Common.{◌≡◌, ◌∙◌, sym, ap, subst, ℕ, zero, suc, ◌<◌, ◌≤◌, List, [], ◌∷◌, map, length, get_or, slice_get, Some, ℤ, arith}
+use Rattle.std.proofs.Common.{◌≡◌, ◌∙◌, sym, ap, subst, ℕ, ◌<◌, ◌≤◌, List, [], map, length, get_or, arith}
 use Rattle.std.proofs.lemmas.List.{length-map}
-use Rattle.std.proofs.lemmas.Option.{slice_get_within, slice_get-get_or, get_or_from_slice_get}
+use Rattle.std.proofs.lemmas.Option.{slice_get_within, get_or_from_slice_get}
 use Rattle.psy_demand.proofs.lemmas.EdgesOf.{edges_at}
 use Rattle.psy_lists.proofs.lemmas.Places.{there}
 use Rattle.psy_dates.specs.declared.plan.Plan.{Plan}
@@ -11,18 +11,16 @@ use Rattle.psy_graph.specs.declared.graph.Graph.{Graph}
 use Rattle.psy_graph.specs.Graphs.{AreGraphs, IsTimingOf, spot_of}
 use Rattle.psy_base.specs.declared.edge.Edge.{Edge}
 use Rattle.psy_base.specs.declared.limits.TheConstants.{PROCESSORS}
-use Rattle.psy_history.specs.Compiled.{AreEdgesOf, AreInputs}
+use Rattle.psy_history.specs.Compiled.{AreEdgesOf}
 use Rattle.psy_history.specs.Processors.{edges_for, processors}
 use Rattle.psy_meaning.specs.Demand.{AreFeasible, IsFeasible, edges_on}
 use Rattle.psy_meaning.specs.Flow.{AreAllNexts}
-use Rattle.psy_meaning.specs.Alike.{AllFit}
 use Rattle.psy_meaning.specs.Units.{IsBare}
 use Rattle.psy_tree.specs.Parts.{agent_at, homes}
 use Rattle.psy_meaning.specs.Graph.{IsGraph}
 use Rattle.psy_meaning.specs.Timing.{Timing, timing_of}
 use Rattle.psy_tree.specs.declared.unit.Unit.{Unit as Whole}
 use Rattle.psy_run.specs.Answer.{Supply}
-use Rattle.psy_run.specs.Services.{no_inputs}
 use Rattle.psy_run.proofs.SupplyLemmas.{IsSupply}
 
 -- ---- a plan's graphs

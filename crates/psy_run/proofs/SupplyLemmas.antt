@@ -25,7 +25,7 @@ use Rattle.psy_meaning.specs.Demand.{AreFeasible, IsDemand, IsOverloadOn, Suffic
 use Rattle.psy_meaning.specs.Units.{IsBare, IsBareAgent, IsOfText}
 use Rattle.psy_meaning.specs.Flow.{AreAllNexts}
 use Rattle.psy_rate.specs.declared.line.Rate.{Rate}
-use Rattle.psy_rate.specs.Horizons.{IsHorizon, AreFeasible as GroupsFeasible, HaveDemands}
+use Rattle.psy_rate.specs.Horizons.{IsHorizon, AreDrawn, AreFeasible as GroupsFeasible}
 use Rattle.psy_rate.specs.Lines.{AreRates, AreAll, lines_by, lines_on}
 use Rattle.psy_sizes.specs.declared.fault.SizeFault.{SizeFault}
 use Rattle.psy_sizes.specs.declared.fault.SizeFault.TheVariants as size
@@ -49,7 +49,7 @@ use Rattle.psy_run.specs.Supplies.{meeting}
 use Rattle.psy_run.specs.Tables.{IsLine, AreLines}
 use Rattle.psy_run.proofs.Courses.{halts_apart, halts_first, halts_later}
 use Rattle.psy_run.proofs.Decisions.{all_or_any, most_or_more}
-use Rattle.psy_run.proofs.ProcessorDemands.{by_each, by_one, demand_on, feasible_none, feasible_or_overload, overload_further, overload_one}
+use Rattle.psy_run.proofs.ProcessorDemands.{by_each, by_one, demand_on, feasible_none, feasible_or_overload, holds_on, overload_further, overload_one}
 
 -- ---- faults by ways
 
@@ -152,7 +152,7 @@ module _ (edges : (unit : Whole) (graphs : List Graph) → IsOfText unit → Are
 
 -- What the laws say of lines and demands
 pub record LinesHold : Type 0 where
-  pub every : (groups : List (List (List Edge))) (lines : List (List Rate)) (quantum horizon : ℕ) → HaveDemands groups → AreAll groups lines → IsHorizon quantum lines horizon → GroupsFeasible groups quantum horizon
+  pub every : (groups : List (List (List Edge))) (lines : List (List Rate)) (quantum horizon : ℕ) → AreDrawn groups → AreAll groups lines → IsHorizon quantum lines horizon → GroupsFeasible groups quantum horizon
       → (top : ℕ) → GroupsFeasible groups quantum top
   pub on : (homes : List ℕ) (processor : ℕ) (graphs : List (List Edge)) (lines : List Rate) → AreRates graphs lines → AreRates (edges_on homes processor graphs) (lines_on homes processor lines)
   pub edges : (unit : Whole) (graphs : List Graph) → IsOfText unit → AreGraphs unit graphs → All (λ graph. All (IsEdge (length graph.nodes)) graph.edges) graphs
@@ -174,9 +174,13 @@ module _ (hold : LinesHold) (unit : Whole) (graphs : List Graph) (lines : List R
   -- Where the demand is supplied up to the horizon, it is over every length.
   always_met : (horizon : ℕ) → IsHorizon unit.quantum (lines_by (homes unit) lines) horizon → AreFeasible (homes unit) (edges_of graphs) unit.quantum horizon → (top : ℕ) → AreFeasible (homes unit) (edges_of graphs) unit.quantum top
   always_met horizon is feasible top processor known within some most =
-      let have : HaveDemands (map own (range_with_len 0 PROCESSORS)) = by_each (λ gs. (length : ℕ) → (demand : ℕ) × IsDemand gs length demand) own PROCESSORS (λ p less. demands p) in
+      let IsDrawn : List Edge → Type 0 = λ graph. (nodes : ℕ) × All (IsEdge nodes) graph in
+      let all : All IsDrawn (edges_of graphs) = λ k d less. (
+      let (nodes, fit, few) = edges_fit hold.edges unit graphs text drawn k (get_or (edges_of graphs) k d) (slice_get-get_or (edges_of graphs) k d less) in
+      (nodes, fit)) in
+      let lead : AreDrawn (map own (range_with_len 0 PROCESSORS)) = by_each (All IsDrawn) own PROCESSORS (λ p less. holds_on IsDrawn (homes unit) p (edges_of graphs) (0, All-nil (IsEdge 0)) all) in
       by_one (λ gs. Suffices gs unit.quantum within) own PROCESSORS processor known
-      (hold.every (map own (range_with_len 0 PROCESSORS)) (lines_by (homes unit) lines) unit.quantum horizon have (rated_on (range_with_len 0 PROCESSORS)) is
+      (hold.every (map own (range_with_len 0 PROCESSORS)) (lines_by (homes unit) lines) unit.quantum horizon lead (rated_on (range_with_len 0 PROCESSORS)) is
       (λ length above below. by_each (λ gs. Suffices gs unit.quantum length) own PROCESSORS (λ p less. feasible p less length above below)) top within some most)
 
   -- What is supplied up to the length that is looked at is supplied up to the last date, and the verdict is true.

@@ -1,5 +1,5 @@
--- What writing two texts in a row did, and a line for each element of a list.
-use Rattle.std.proofs.Common.{◌≡◌, ◌∙◌, sym, subst, ap, ℕ, ◌+◌, ◌<◌, ◌≤◌, List, ◌++◌, take, length, get_or, min, Option, arith, Result, Ok, Err, inl, inr}
+-- What writing two texts in a row did.
+use Rattle.std.proofs.Common.{◌≡◌, ◌∙◌, sym, subst, ap, ℕ, ◌+◌, ◌≤◌, List, ◌++◌, take, length, Option, arith, Result, Ok, Err, inl, inr}
 use Rattle.std.proofs.lemmas.Bool.{cases_lt}
 use Rattle.std.proofs.lemmas.List.{take-append-le, take_all}
 use Rattle.std.proofs.Math.Seq.{take-append-add, take-append_seam}
@@ -7,8 +7,6 @@ use Rattle.psy_run.proofs.lemmas.Growth.{Grew-trans}
 use Rattle.psy_door.specs.Growth.{Grew, GrewByFront}
 use Rattle.psy_log.specs.declared.write.WriteFault.{WriteFault}
 use Rattle.psy_log.specs.Writing.{Written}
-use Rattle.psy_run.specs.Texts.{paired_text}
-use Rattle.psy_run.proofs.TextLemmas.{sizes_more, sizes_split, sizes_all}
 
 -- A front of a text is a front of the text with more behind it
 pub GrewByFront-append : (a b : Option (List ℕ)) (p q : List ℕ) → GrewByFront a b p → GrewByFront a b (p ++ q)
@@ -37,28 +35,3 @@ Grew-item a b c so_far item next is first second = subst (Grew a c) (sym is) (Gr
 pub GrewByFront-item : (a b c : Option (List ℕ)) (so_far item next rest whole : List ℕ) → next ≡ so_far ++ item → whole ≡ next ++ rest → Grew a b so_far → GrewByFront b c item → GrewByFront a c whole
 GrewByFront-item a b c so_far item next rest whole is all first second =
     subst (GrewByFront a c) (sym (all ∙ ap (λ front. front ++ rest) is)) (GrewByFront-append a c (so_far ++ item) rest (Grew-GrewByFront a b c so_far item first second))
-
--- A line for each of what is named, with what was found of it: the lines so far, and the next one, or a front of it; and all lines
-module _ {X Y : Type 0} (name : X → List ℕ) (line : List ℕ → Y → List ℕ) (xs : List X) (ys : List Y) where
-  abbrev lines_up_to : ℕ → List ℕ
-  lines_up_to n = paired_text (λ x. line (name x)) (take n xs) (take n ys)
-
-  -- what is written under a name is the line of what has that name
-  line_is : (i : ℕ) (x : X) (y : Y) (written : List ℕ) → written ≡ name x → x ≡ get_or xs i x → line written (get_or ys i y) ≡ line (name (get_or xs i x)) (get_or ys i y)
-  line_is i x y written named is = ap (λ own. line own (get_or ys i y)) (named ∙ ap name is)
-
-  more_lines : (i : ℕ) (x : X) (y : Y) → i < min (length xs) (length ys) → lines_up_to (i + 1) ≡ lines_up_to i ++ line (name (get_or xs i x)) (get_or ys i y)
-  more_lines i x y less = sizes_more (λ x. line (name x)) xs ys i x y (omega (arith, less)) (omega (arith, less))
-
-  pub Grew-line : (a b c : Option (List ℕ)) (i : ℕ) (x : X) (y : Y) (written : List ℕ) → i < min (length xs) (length ys) → written ≡ name x → x ≡ get_or xs i x
-      → Grew a b (lines_up_to i) → Grew b c (line written (get_or ys i y)) → Grew a c (lines_up_to (i + 1))
-  Grew-line a b c i x y written less named is so_far next =
-      Grew-item a b c (lines_up_to i) _ _ (more_lines i x y less) so_far (subst (Grew b c) (line_is i x y written named is) next)
-
-  pub GrewByFront-line : (a b c : Option (List ℕ)) (i : ℕ) (x : X) (y : Y) (written : List ℕ) → i < min (length xs) (length ys) → written ≡ name x → x ≡ get_or xs i x
-      → Grew a b (lines_up_to i) → GrewByFront b c (line written (get_or ys i y)) → GrewByFront a c (paired_text (λ x. line (name x)) xs ys)
-  GrewByFront-line a b c i x y written less named is so_far next =
-      GrewByFront-item a b c (lines_up_to i) _ _ _ _ (more_lines i x y less) (sizes_split (λ x. line (name x)) xs ys (i + 1)) so_far (subst (GrewByFront b c) (line_is i x y written named is) next)
-
-  pub Grew-lines : (a b : Option (List ℕ)) (n : ℕ) → n ≡ min (length xs) (length ys) → Grew a b (lines_up_to n) → Grew a b (paired_text (λ x. line (name x)) xs ys)
-  Grew-lines a b n all grew = subst (Grew a b) (sizes_all (λ x. line (name x)) xs ys n all) grew

@@ -110,6 +110,13 @@ trying seed until = do
   _ ← pacing unit until
   pure (Tried unit supply.nexts supply.sizes until)
 
+-- A run of the program of a text, without inputs and script, however many cycles it has
+abbrev pub planning : List ℕ → ℕ → Course Service
+planning bytes until = do
+  unit ← translating bytes
+  supply ← supplying unit until
+  pure (Tried unit supply.nexts supply.sizes until)
+
 -- A command
 abbrev pub serving : Option Files → Command → Course Service
 serving files (Run program until inputs script) = running files program until inputs script

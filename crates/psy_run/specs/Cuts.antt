@@ -1,9 +1,10 @@
 -- Where a write failed: the lines before the one that failed were written, and a front of it.
-use Rattle.std.specs.Prelude.{◌≡◌, ℕ, ◌+◌, ◌<◌, List, ◌∷◌, ◌++◌, length, take, Option}
+use Rattle.std.specs.Prelude.{◌≡◌, ℕ, ◌+◌, ◌<◌, List, ◌∷◌, ◌++◌, length, take, Option, Result, MatchResult}
 use Rattle.std.specs.List.{flat_map, range_with_len}
 use Rattle.psy_base.specs.declared.sizes.Sizes.{Sizes}
 use Rattle.psy_door.specs.Growth.{Grew}
 use Rattle.psy_history.specs.Actions.{System}
+use Rattle.psy_log.specs.declared.write.WriteFault.{WriteFault}
 use Rattle.psy_kernel.specs.Texts.{lines_of, summary_of, text_of}
 
 -- The lines of the first dates, of which there are so many: 0, 1 and so on
@@ -22,3 +23,7 @@ pub record IsCutAt (old new : Option (List ℕ)) (lines : List (List ℕ)) (take
   pub all : lines ≡ before ++ (line ∷ behind)
   pub short : taken < length line
   pub grew : Grew old new (text_of before ++ take taken line)
+
+-- Lines were written, all of them, or a write failed and they were cut there.
+abbrev pub Wrote : Option (List ℕ) → Option (List ℕ) → Result (Unit {0}) WriteFault → List (List ℕ) → Type 0
+Wrote old new result lines = MatchResult result (λ done. Grew old new (text_of lines)) (λ fault. IsCutAt old new lines fault.taken)

@@ -1,5 +1,6 @@
 -- What a command does, once nothing refuses it, and its text.
 use Rattle.std.specs.Prelude.{◌≡◌, ℕ, ◌+◌, ◌*◌, List, [], map, length, Option, None, Some, ℤ}
+use Rattle.psy_dates.specs.declared.plan.Plan.{Plan}
 use Rattle.psy_tree.specs.declared.unit.Unit.{Unit as Whole}
 use Rattle.psy_history.specs.Actions.{System}
 use Rattle.psy_graph.specs.declared.graph.Graph.{Graph}
@@ -81,3 +82,7 @@ service_of (served.Checked unit sizes lines extent) = Checked unit sizes lines e
 service_of (served.Drawn unit graphs costs) = Drawn unit graphs costs
 service_of (served.Made text) = Made text.items
 service_of (served.Tried kernel) = Tried kernel.plan.unit kernel.plan.nexts kernel.plan.sizes kernel.plan.until
+
+-- The run of a plan without inputs and script
+abbrev pub planned_run : Plan → Service
+planned_run plan = Tried plan.unit plan.nexts plan.sizes plan.until

@@ -1,5 +1,5 @@
--- The texts of `check` and `graph`.
-use Rattle.std.specs.Prelude.{ℕ, ◌+◌, List, [], ◌∷◌, ◌++◌, length, flat_map, get_or}
+-- The texts of `check` and `graph`, line by line.
+use Rattle.std.specs.Prelude.{ℕ, ◌+◌, List, [], ◌∷◌, ◌++◌, length, map, get_or}
 use Rattle.psy_base.specs.declared.edge.Edge.{Edge}
 use Rattle.psy_base.specs.declared.sizes.Sizes.{Sizes}
 use Rattle.psy_tree.specs.declared.unit.AgentDecl.{AgentDecl}
@@ -10,60 +10,68 @@ use Rattle.psy_log.specs.Forms.{variable_size_line, stream_size_line, rate_line,
 use Rattle.psy_graph.specs.declared.graph.Graph.{Graph}
 use Rattle.psy_graph.specs.declared.graph.Node.{Node}
 use Rattle.psy_rate.specs.declared.line.Rate.{Rate}
+use Rattle.psy_kernel.specs.Texts.{text_of}
 use Rattle.psy_run.specs.declared.extent.Extent.{Extent}
 use Rattle.psy_run.specs.declared.extent.Extent.TheVariants.{Horizon, LastDate}
 
 -- ---- check
 
 -- A line for each of what is declared, with what was found of it
-abbrev pub paired_text : {X Y : Type 0} → (X → Y → List ℕ) → List X → List Y → List ℕ
-paired_text line (x ∷ xs) (y ∷ ys) = line x y ++ paired_text line xs ys
-paired_text line _ _ = []
+abbrev pub paired_lines : {X Y : Type 0} → (X → Y → List ℕ) → List X → List Y → List (List ℕ)
+paired_lines line (x ∷ xs) (y ∷ ys) = line x y ∷ paired_lines line xs ys
+paired_lines line _ _ = []
 
 -- The sizes of the rings of variables
-abbrev pub rings_text : List VarDecl → List ℕ → List ℕ
-rings_text = paired_text (λ (v : VarDecl). variable_size_line v.name)
+abbrev pub ring_lines : List VarDecl → List ℕ → List (List ℕ)
+ring_lines = paired_lines (λ (v : VarDecl). variable_size_line v.name)
 
 -- The sizes of the queues of streams
-abbrev pub queues_text : List StreamDecl → List ℕ → List ℕ
-queues_text = paired_text (λ (s : StreamDecl). stream_size_line s.name)
-
--- The line above an agent's demand
-abbrev pub rate_text : AgentDecl → Rate → List ℕ
-rate_text agent line = rate_line agent.name line.rate line.intercept
+abbrev pub queue_lines : List StreamDecl → List ℕ → List (List ℕ)
+queue_lines = paired_lines (λ (s : StreamDecl). stream_size_line s.name)
 
 -- The lines above the demands of agents
-abbrev pub rates_text : List AgentDecl → List Rate → List ℕ
-rates_text = paired_text rate_text
+abbrev pub rate_lines : List AgentDecl → List Rate → List (List ℕ)
+rate_lines = paired_lines (λ (agent : AgentDecl) (line : Rate). rate_line agent.name line.rate line.intercept)
 
 -- The verdict: the demand is supplied over every length, where it is up to the horizon, or else over each up to the last date.
-abbrev pub verdict_text : Extent → List ℕ
-verdict_text (Horizon length) = always_line
-verdict_text (LastDate date) = feasible_line date
+abbrev pub verdict_line : Extent → List ℕ
+verdict_line (Horizon length) = always_line
+verdict_line (LastDate date) = feasible_line date
 
 -- The sizes, the lines above the demand, and the verdict
+abbrev pub check_lines : Whole → Sizes → List Rate → Extent → List (List ℕ)
+check_lines unit sizes lines extent = ring_lines unit.variables sizes.rings ++ (queue_lines unit.streams sizes.queues
+    ++ (rate_lines unit.agents lines ++ verdict_line extent ∷ []))
+
+-- The text of a check
 abbrev pub check_text : Whole → Sizes → List Rate → Extent → List ℕ
-check_text unit sizes lines extent = rings_text unit.variables sizes.rings ++ (queues_text unit.streams sizes.queues
-    ++ (rates_text unit.agents lines ++ verdict_text extent))
+check_text unit sizes lines extent = text_of (check_lines unit sizes lines extent)
 
 -- ---- graph
 
--- The lines of nodes, numbered from here on, with the greatest cost from the point of each
-abbrev pub nodes_text : List ℕ → ℕ → List Node → List ℕ
-nodes_text costs number [] = []
-nodes_text costs number (node ∷ rest) = node_line number node.point node.phase node.budget (get_or costs node.point 0) node.due
-    ++ nodes_text costs (number + 1) rest
+-- The line of a node with a number, with the greatest cost from its point
+abbrev pub line_of_node : List ℕ → ℕ → Node → List ℕ
+line_of_node costs number node = node_line number node.point node.phase node.budget (get_or costs node.point 0) node.due
 
--- The line of an edge
-abbrev pub edge_text : Edge → List ℕ
-edge_text edge = edge_line edge.from edge.to edge.len
+-- The lines of nodes, numbered from here on
+abbrev pub node_lines : List ℕ → ℕ → List Node → List (List ℕ)
+node_lines costs number [] = []
+node_lines costs number (node ∷ rest) = line_of_node costs number node ∷ node_lines costs (number + 1) rest
+
+-- The lines of edges
+abbrev pub edge_lines : List Edge → List (List ℕ)
+edge_lines = map (λ edge. edge_line edge.from edge.to edge.len)
 
 -- The lines of an agent: its graph's counts, its nodes and its edges
-abbrev pub agent_text : AgentDecl → Graph → List ℕ → List ℕ
-agent_text agent graph costs = agent_graph_line agent.name (length graph.nodes) (length graph.edges)
-    ++ (nodes_text costs 0 graph.nodes ++ flat_map edge_text graph.edges)
+abbrev pub agent_lines : AgentDecl → Graph → List ℕ → List (List ℕ)
+agent_lines agent graph costs = agent_graph_line agent.name (length graph.nodes) (length graph.edges)
+    ∷ (node_lines costs 0 graph.nodes ++ edge_lines graph.edges)
 
 -- The lines of all agents
+abbrev pub graph_lines : List AgentDecl → List Graph → List (List ℕ) → List (List ℕ)
+graph_lines (agent ∷ agents) (graph ∷ graphs) (list ∷ costs) = agent_lines agent graph list ++ graph_lines agents graphs costs
+graph_lines _ _ _ = []
+
+-- Their text
 abbrev pub graph_text : List AgentDecl → List Graph → List (List ℕ) → List ℕ
-graph_text (agent ∷ agents) (graph ∷ graphs) (list ∷ costs) = agent_text agent graph list ++ graph_text agents graphs costs
-graph_text _ _ _ = []
+graph_text agents graphs costs = text_of (graph_lines agents graphs costs)

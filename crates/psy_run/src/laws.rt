@@ -1,5 +1,6 @@
 //! Laws of the defined answer: words have one, and no other; of runs: they keep their bounds; and of checks: what they tell is borne out.
-ghost use Rattle.std.specs.Prelude.{◌≡◌, ℕ, ◌+◌, ◌*◌, List, Option, Some, ℤ};
+ghost use Rattle.std.specs.Prelude.{◌≡◌, ℕ, ◌+◌, ◌*◌, ◌≤◌, List, Option, Some, ℤ, length};
+ghost use Rattle.psy_base.specs.declared.limits.TheConstants.{FILE_BYTES};
 ghost use Rattle.psy_door.specs.Files.{Files, bytes_under};
 ghost use Rattle.psy_demand.specs.Criterion.{edges_of};
 ghost use Rattle.psy_dates.specs.declared.plan.Plan.{Plan};
@@ -23,8 +24,9 @@ ghost use Rattle.psy_meaning.specs.ListedWays.{AreWaysOf};
 ghost use Rattle.psy_rate.specs.declared.line.Rate.{Rate};
 ghost use Rattle.psy_rate.specs.Lines.{AreRates};
 ghost use Rattle.psy_run.specs.declared.extent.Extent.{Extent};
+ghost use Rattle.psy_run.specs.declared.refusal.Refusal.{Refusal as Cause};
 ghost use Rattle.psy_run.specs.declared.refusal.Refusal.TheVariants.{Infeasible};
-ghost use Rattle.psy_run.specs.Answer.{Answers, answering, supplying};
+ghost use Rattle.psy_run.specs.Answer.{Answers, answering, planning, supplying};
 ghost use Rattle.psy_run.specs.Asked.{Asks, Check, Run};
 ghost use Rattle.psy_run.specs.Bounds.{IsBounded, IsBorneOut, IsMet, KeepsBounds};
 ghost use Rattle.psy_run.specs.Extents.{IsExtent, length_of};
@@ -48,11 +50,13 @@ use psy_sizes::laws::{listed_sizes, one_size};
 use psy_token::laws::one_reading;
 use psy_window::laws::greatest;
 
-/// Words have one answer, where files are told, and no other.
+/// Words have one answer, where files are told, and no other; and the program of a text that is refused is refused in one way, and not planned.
 pub fn one_answer()
     ensures same { (words : List (List ℕ)) (files : Files) (status other : ℕ) (text another : List ℕ) → Answers words (Some files) status text
         → Answers words (Some files) other another → (status ≡ other) × (text ≡ another) }
     ensures some { (words : List (List ℕ)) (files : Files) → (status : ℕ) × (text : List ℕ) × Answers words (Some files) status text }
+    ensures refused { (text : List ℕ) (until : ℕ) (refusal : Cause) → length text ≤ FILE_BYTES → (planning text until).stops refusal
+        → ((other : Cause) → (planning text until).stops other → other ≡ refusal) × ((done : Service) → (planning text until).gives done → ⊥) }
 {
     one_reading();
     one_tree();
@@ -141,14 +145,17 @@ pub fn borne_out()
 }
 
 /// The headline: where a check of a program up to a date is answered by status 0, each run of it up to that date is, whatever the inputs and
-/// the script; it writes the dated meaning of the program's statements, and keeps its bounds.
+/// the script; it writes the dated meaning of the program's statements, by the points that follow each of its points, and the sizes that its
+/// buffers need, and keeps its bounds.
 pub fn accepted()
     ensures { (files others : Files) (checked ran : List (List ℕ)) (program again : List ℕ) (until : ℕ) (inputs script : Option (List ℕ)) (text : List ℕ)
         → Asks checked (Check program until) → Answers checked (Some files) 0 text
         → Asks ran (Run again until inputs script) → bytes_under others again ≡ bytes_under files program
         → IsRunnable ran others again until inputs script }
 {
+    of_text();
     bounded();
+    extents();
 }
 
 /// Isolation, in bytes: two runs of a program with the same inputs, each with stalls of its own. Where, of each agent that reaches another,

@@ -22,6 +22,7 @@ mod top;
 mod ways;
 
 pub use clean::psyc_over_clean;
-pub use kernels::kernel_of;
-pub use run::run_loop;
+pub use kernels::{kernel_asked, kernel_of};
+pub use refusal::{File, Refusal, Stop};
+pub use run::{run_loop, write_date, write_summary};
 pub use top::psyc;

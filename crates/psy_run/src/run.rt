@@ -12,8 +12,8 @@ use psy_door::Sink;
 use psy_kernel::{Kernel, Stage};
 use psy_log::{Line, WriteFault, write_all_of};
 
-// Writes the lines of the date done last, none of which was given so far.
-fn write_date<S: Sink>(kernel: &mut Kernel, out: &mut S) -> Result<(), WriteFault>
+/// Writes the lines of the date done last, none of which was given so far. It takes no memory.
+pub fn write_date<S: Sink>(kernel: &mut Kernel, out: &mut S) -> Result<(), WriteFault>
     requires none { kernel.old.given ≡ 0 }
     ensures counted { S.faults out.old ≤ S.faults out.new }
     ensures failed { OnErr result (Rose (S.faults out.old) (S.faults out.new)) }
@@ -47,8 +47,8 @@ fn run_dates<S: Sink>(kernel: &mut Kernel, out: &mut S) -> Result<(), WriteFault
     'stages: loop {
         match kernel.stage() {
             Stage::Over => return Ok(()),
-            Stage::CycleDue(_) => kernel.slice(),
-            // A slice ends with a whole cycle.
+            Stage::CycleDue(_) => kernel.tick(),
+            // A tick ends with a whole cycle.
             Stage::UnitDue(..) => unreachable!(),
             Stage::DateDue(_) => {
                 kernel.date();
@@ -77,8 +77,8 @@ fn pass_dates(kernel: &mut Kernel)
     'stages: loop {
         match kernel.stage() {
             Stage::Over => return,
-            Stage::CycleDue(_) => kernel.slice(),
-            // A slice ends with a whole cycle.
+            Stage::CycleDue(_) => kernel.tick(),
+            // A tick ends with a whole cycle.
             Stage::UnitDue(..) => unreachable!(),
             Stage::DateDue(_) => {
                 kernel.date();
@@ -88,8 +88,8 @@ fn pass_dates(kernel: &mut Kernel)
     }
 }
 
-// Writes the summary of a kernel that is over.
-fn write_summary<S: Sink>(kernel: &Kernel, out: &mut S) -> Result<(), WriteFault>
+/// Writes the summary of a kernel that is over. It takes no memory.
+pub fn write_summary<S: Sink>(kernel: &Kernel, out: &mut S) -> Result<(), WriteFault>
     requires over { stage_of kernel.now ≡ Over }
     ensures counted { S.faults out.old ≤ S.faults out.new }
     ensures failed { OnErr result (Rose (S.faults out.old) (S.faults out.new)) }

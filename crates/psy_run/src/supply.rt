@@ -20,7 +20,7 @@ use crate::refusal::{Refusal, Stop};
 use crate::ways::with_ways;
 use psy_base::{Items, Sizes, Ways};
 use psy_code::Code;
-use psy_demand::{Verdict, criterion};
+use psy_demand::{Finding, criterion};
 use psy_flow::laws::listed;
 use psy_graph::laws::one_graph;
 use psy_graph::{Graph, GraphFault, build_by};
@@ -106,9 +106,9 @@ fn demand(
         unit.quantum,
         top,
     ) {
-        Ok(Verdict::Yes) => Ok(()),
+        Ok(Finding::Feasible) => Ok(()),
         Ok(
-            Verdict::No {
+            Finding::Overload {
                 length,
                 processor,
                 demand,

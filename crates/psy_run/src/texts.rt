@@ -1,14 +1,15 @@
 //! The texts of `check` and `graph`.
-ghost use Rattle.std.specs.Prelude.{◌≡◌, ◌≤◌, ◌++◌, flat_map, length, take, OnOk, OnErr};
+ghost use Rattle.std.specs.Prelude.{◌≡◌, ◌≤◌, [], ◌∷◌, length, IfErr, OnOk, OnErr};
 ghost use Rattle.psy_base.specs.declared.limits.TheConstants.{WORD_BYTES, NODES};
 ghost use Rattle.psy_door.specs.Faults.{Rose};
-ghost use Rattle.psy_log.specs.Forms.{line_of, name_of, node_line};
+ghost use Rattle.psy_log.specs.Forms.{line_of, name_of};
 ghost use Rattle.psy_log.specs.Writing.{Written};
 ghost use Rattle.psy_meaning.specs.Units.{IsBare};
 ghost use Rattle.std.specs.List.{All};
-ghost use Rattle.std.specs.Prelude.{get_or};
 ghost use Rattle.psy_graph.specs.Graphs.{IsSmall};
-ghost use Rattle.psy_run.specs.Texts.{rings_text, queues_text, rates_text, verdict_text, check_text, nodes_text, edge_text, agent_text, graph_text};
+ghost use Rattle.psy_run.specs.Cuts.{IsCutAt, Wrote};
+ghost use Rattle.psy_run.specs.Texts.{agent_lines, check_lines, check_text, edge_lines, graph_lines, graph_text, line_of_node, node_lines};
+ghost use Rattle.psy_run.specs.Texts.{queue_lines, rate_lines, ring_lines, verdict_line};
 
 use crate::extent::Extent;
 use psy_base::{Edge, Items, Sizes};
@@ -24,7 +25,7 @@ pub fn write_note<S: Sink>(out: &mut S, note: &Note) -> Result<(), WriteFault>
     ensures counted { S.faults out.old ≤ S.faults out.new }
     ensures failed { OnErr result (Rose (S.faults out.old) (S.faults out.new)) }
     ensures unfailed { OnOk result (S.faults out.new ≡ S.faults out.old) }
-    ensures written { Written (S.held out.old) (S.held out.new) result (line_of note.now) }
+    ensures wrote { Wrote (S.held out.old) (S.held out.new) result (line_of note.now ∷ []) }
 {
     let mut line = Line::new();
     line.set(note);
@@ -37,7 +38,7 @@ fn write_rings<S: Sink>(variables: &[VarDecl], rings: &[u32], out: &mut S) -> Re
     ensures counted { S.faults out.old ≤ S.faults out.new }
     ensures failed { OnErr result (Rose (S.faults out.old) (S.faults out.new)) }
     ensures unfailed { OnOk result (S.faults out.new ≡ S.faults out.old) }
-    ensures written { Written (S.held out.old) (S.held out.new) result (rings_text variables.now rings.now) }
+    ensures wrote { Wrote (S.held out.old) (S.held out.new) result (ring_lines variables.now rings.now) }
 {
     let count = variables.len().min(rings.len());
     'variables: for number in 0..count {
@@ -64,7 +65,7 @@ fn write_queues<S: Sink>(
     ensures counted { S.faults out.old ≤ S.faults out.new }
     ensures failed { OnErr result (Rose (S.faults out.old) (S.faults out.new)) }
     ensures unfailed { OnOk result (S.faults out.new ≡ S.faults out.old) }
-    ensures written { Written (S.held out.old) (S.held out.new) result (queues_text streams.now queues.now) }
+    ensures wrote { Wrote (S.held out.old) (S.held out.new) result (queue_lines streams.now queues.now) }
 {
     let count = streams.len().min(queues.len());
     'streams: for number in 0..count {
@@ -87,7 +88,7 @@ fn write_rates<S: Sink>(agents: &[AgentDecl], lines: &[Rate], out: &mut S) -> Re
     ensures counted { S.faults out.old ≤ S.faults out.new }
     ensures failed { OnErr result (Rose (S.faults out.old) (S.faults out.new)) }
     ensures unfailed { OnOk result (S.faults out.new ≡ S.faults out.old) }
-    ensures written { Written (S.held out.old) (S.held out.new) result (rates_text agents.now lines.now) }
+    ensures wrote { Wrote (S.held out.old) (S.held out.new) result (rate_lines agents.now lines.now) }
 {
     let count = agents.len().min(lines.len());
     'agents: for number in 0..count {
@@ -110,7 +111,7 @@ fn write_verdict<S: Sink>(extent: Extent, out: &mut S) -> Result<(), WriteFault>
     ensures counted { S.faults out.old ≤ S.faults out.new }
     ensures failed { OnErr result (Rose (S.faults out.old) (S.faults out.new)) }
     ensures unfailed { OnOk result (S.faults out.new ≡ S.faults out.old) }
-    ensures written { Written (S.held out.old) (S.held out.new) result (verdict_text extent) }
+    ensures wrote { Wrote (S.held out.old) (S.held out.new) result (verdict_line extent ∷ []) }
 {
     match extent {
         Extent::Horizon(_) => write_note(out, &Note::Always),
@@ -121,6 +122,32 @@ fn write_verdict<S: Sink>(extent: Extent, out: &mut S) -> Result<(), WriteFault>
             },
         ),
     }
+}
+
+// Writes the lines of a check: sizes, the lines above demands, and the verdict.
+fn write_check_lines<S: Sink>(
+    unit: &Unit,
+    sizes: &Sizes,
+    lines: &[Rate],
+    extent: Extent,
+    out: &mut S,
+) -> Result<(), WriteFault>
+    requires { IsBare unit.now }
+    ensures counted { S.faults out.old ≤ S.faults out.new }
+    ensures failed { OnErr result (Rose (S.faults out.old) (S.faults out.new)) }
+    ensures unfailed { OnOk result (S.faults out.new ≡ S.faults out.old) }
+    ensures wrote { Wrote (S.held out.old) (S.held out.new) result (check_lines unit.now sizes.now lines.now extent) }
+{
+    if let Err(fault) = write_rings(unit.variables.as_slice(), sizes.rings.as_slice(), out) {
+        return Err(fault);
+    }
+    if let Err(fault) = write_queues(unit.streams.as_slice(), sizes.queues.as_slice(), out) {
+        return Err(fault);
+    }
+    if let Err(fault) = write_rates(unit.agents.as_slice(), lines, out) {
+        return Err(fault);
+    }
+    write_verdict(extent, out)
 }
 
 /// Writes the sizes of a program's rings and queues, the lines above the demands of its agents, and over which lengths the demand is met.
@@ -136,17 +163,9 @@ pub fn write_check<S: Sink>(
     ensures failed { OnErr result (Rose (S.faults out.old) (S.faults out.new)) }
     ensures unfailed { OnOk result (S.faults out.new ≡ S.faults out.old) }
     ensures written { Written (S.held out.old) (S.held out.new) result (check_text unit.now sizes.now lines.now extent) }
+    ensures cut { IfErr result (λ fault. IsCutAt (S.held out.old) (S.held out.new) (check_lines unit.now sizes.now lines.now extent) fault.taken) }
 {
-    if let Err(fault) = write_rings(unit.variables.as_slice(), sizes.rings.as_slice(), out) {
-        return Err(fault);
-    }
-    if let Err(fault) = write_queues(unit.streams.as_slice(), sizes.queues.as_slice(), out) {
-        return Err(fault);
-    }
-    if let Err(fault) = write_rates(unit.agents.as_slice(), lines, out) {
-        return Err(fault);
-    }
-    write_verdict(extent, out)
+    write_check_lines(unit, sizes, lines, extent, out)
 }
 
 // Writes the line of a node, with the greatest cost from its point.
@@ -159,8 +178,8 @@ fn write_node<S: Sink>(
     ensures counted { S.faults out.old ≤ S.faults out.new }
     ensures failed { OnErr result (Rose (S.faults out.old) (S.faults out.new)) }
     ensures unfailed { OnOk result (S.faults out.new ≡ S.faults out.old) }
-    ensures written { Written (S.held out.old) (S.held out.new) result
-        (node_line number node.now.point node.now.phase node.now.budget (get_or costs.now node.now.point 0) node.now.due) }
+    ensures wrote { Wrote (S.held out.old) (S.held out.new) result
+        (line_of_node costs.now number node.now ∷ []) }
 {
     let worst = match costs.get(node.point as usize) {
         Some(worst) => *worst,
@@ -185,7 +204,7 @@ fn write_nodes<S: Sink>(nodes: &[Node], costs: &[u64], out: &mut S) -> Result<()
     ensures counted { S.faults out.old ≤ S.faults out.new }
     ensures failed { OnErr result (Rose (S.faults out.old) (S.faults out.new)) }
     ensures unfailed { OnOk result (S.faults out.new ≡ S.faults out.old) }
-    ensures written { Written (S.held out.old) (S.held out.new) result (nodes_text costs.now 0 nodes.now) }
+    ensures wrote { Wrote (S.held out.old) (S.held out.new) result (node_lines costs.now 0 nodes.now) }
 {
     'nodes: for (number, node) in nodes.iter().enumerate() {
         if let Err(fault) = write_node(number as u32, node, costs, out) {
@@ -200,7 +219,7 @@ fn write_edges<S: Sink>(edges: &[Edge], out: &mut S) -> Result<(), WriteFault>
     ensures counted { S.faults out.old ≤ S.faults out.new }
     ensures failed { OnErr result (Rose (S.faults out.old) (S.faults out.new)) }
     ensures unfailed { OnOk result (S.faults out.new ≡ S.faults out.old) }
-    ensures written { Written (S.held out.old) (S.held out.new) result (flat_map edge_text edges.now) }
+    ensures wrote { Wrote (S.held out.old) (S.held out.new) result (edge_lines edges.now) }
 {
     'edges: for edge in edges {
         let note = Note::EdgeOf {
@@ -227,7 +246,7 @@ fn write_agent<S: Sink>(
     ensures counted { S.faults out.old ≤ S.faults out.new }
     ensures failed { OnErr result (Rose (S.faults out.old) (S.faults out.new)) }
     ensures unfailed { OnOk result (S.faults out.new ≡ S.faults out.old) }
-    ensures written { Written (S.held out.old) (S.held out.new) result (agent_text agent.now graph.now costs.now) }
+    ensures wrote { Wrote (S.held out.old) (S.held out.new) result (agent_lines agent.now graph.now costs.now) }
 {
     let note = Note::AgentGraph {
         agent: agent.name.bytes(),
@@ -243,6 +262,31 @@ fn write_agent<S: Sink>(
     write_edges(graph.edges.as_slice(), out)
 }
 
+// Writes the lines of the graphs of a program's agents, with the greatest costs by agent and point.
+fn write_graph_lines<S: Sink>(
+    unit: &Unit,
+    graphs: &[Graph],
+    costs: &[Items<u64>],
+    out: &mut S,
+) -> Result<(), WriteFault>
+    requires bare { IsBare unit.now }
+    requires small { All IsSmall graphs.now }
+    ensures counted { S.faults out.old ≤ S.faults out.new }
+    ensures failed { OnErr result (Rose (S.faults out.old) (S.faults out.new)) }
+    ensures unfailed { OnOk result (S.faults out.new ≡ S.faults out.old) }
+    ensures wrote { Wrote (S.held out.old) (S.held out.new) result (graph_lines unit.now.agents graphs.now costs.now) }
+{
+    let agents = unit.agents.as_slice();
+    let count = agents.len().min(graphs.len()).min(costs.len());
+    'agents: for number in 0..count {
+        let costs = costs[number].as_slice();
+        if let Err(fault) = write_agent(&agents[number], &graphs[number], costs, out) {
+            return Err(fault);
+        }
+    }
+    Ok(())
+}
+
 /// Writes the graphs of a program's agents, with the greatest costs by agent and point.
 pub fn write_graph<S: Sink>(
     unit: &Unit,
@@ -256,14 +300,7 @@ pub fn write_graph<S: Sink>(
     ensures failed { OnErr result (Rose (S.faults out.old) (S.faults out.new)) }
     ensures unfailed { OnOk result (S.faults out.new ≡ S.faults out.old) }
     ensures written { Written (S.held out.old) (S.held out.new) result (graph_text unit.now.agents graphs.now costs.now) }
+    ensures cut { IfErr result (λ fault. IsCutAt (S.held out.old) (S.held out.new) (graph_lines unit.now.agents graphs.now costs.now) fault.taken) }
 {
-    let agents = unit.agents.as_slice();
-    let count = agents.len().min(graphs.len()).min(costs.len());
-    'agents: for number in 0..count {
-        let costs = costs[number].as_slice();
-        if let Err(fault) = write_agent(&agents[number], &graphs[number], costs, out) {
-            return Err(fault);
-        }
-    }
-    Ok(())
+    write_graph_lines(unit, graphs, costs, out)
 }

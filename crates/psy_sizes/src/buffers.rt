@@ -5,7 +5,7 @@ ghost use Rattle.psy_meaning.specs.BufferSizes.{AreSizes};
 ghost use Rattle.psy_meaning.specs.Flow.{AreAllNexts};
 ghost use Rattle.psy_meaning.specs.KnownWays.{Listed, OfText};
 ghost use Rattle.psy_meaning.specs.ListedWays.{AreWaysFor};
-ghost use Rattle.psy_meaning.specs.Units.{IsOfText};
+ghost use Rattle.psy_meaning.specs.Units.{IsBare, IsOfText};
 ghost use Rattle.psy_graph.specs.Graphs.{AreGraphs, AreGraphsBy};
 ghost use Rattle.psy_sizes.specs.declared.fault.SizeFault.TheVariants.{Memory as no_memory};
 ghost use Rattle.psy_sizes.specs.Faults.{CanCount, IsCause, IsFaultBy};
@@ -33,7 +33,7 @@ pub fn sizes_by(
     graphs: &[Graph],
     ways: &Ways,
 ) -> Result<Sizes, SizeFault>
-    requires text { IsOfText unit.now }
+    requires bare { IsBare unit.now }
     requires ways { AreWaysFor unit.now ways.now }
     requires graphs { AreGraphsBy unit.now ways.now.nexts graphs.now }
     ensures sizes { IfOk result (AreSizes unit.now (Listed ways.now) ways.now.nexts) }

@@ -6,7 +6,7 @@ ghost use Rattle.psy_base.specs.Extremes.{IsGreatest, IsMost};
 ghost use Rattle.psy_meaning.specs.KnownWays.{Listed};
 ghost use Rattle.psy_meaning.specs.ListedWays.{AreWaysFor};
 ghost use Rattle.psy_meaning.specs.QueueSizes.{AreOutboxes, AreSendsBelow, HasSendsTo};
-ghost use Rattle.psy_meaning.specs.Units.{IsOfText};
+ghost use Rattle.psy_meaning.specs.Units.{IsBare};
 ghost use Rattle.psy_sizes.specs.Sending.{AreCut, HasSendsAmong};
 
 use crate::readings::most;
@@ -47,7 +47,7 @@ fn most_among(ways: &Ways, agent: u32, from: u32, nexts: &[u32], streams: u32) -
 
 /// The size of an agent's outbox: the greatest of these sums over its points and their next ones.
 fn outbox(unit: &Unit, ways: &Ways, agent: u32) -> u32
-    requires text { IsOfText unit.now }
+    requires bare { IsBare unit.now }
     requires ways { AreWaysFor unit.now ways.now }
     requires agent { agent < length unit.now.agents }
     ensures { IsGreatest (HasSendsTo unit.now (Listed ways.now) ways.now.nexts agent) result }
@@ -71,7 +71,7 @@ fn outbox(unit: &Unit, ways: &Ways, agent: u32) -> u32
 /// The sizes of the outboxes of all agents, in order: the most messages that one action of the agent sends, each stream's count cut at 65,537.
 /// The only error is want of memory.
 pub fn outboxes(alloc: Global, unit: &Unit, ways: &Ways) -> Result<Items<u32>, Memory>
-    requires text { IsOfText unit.now }
+    requires bare { IsBare unit.now }
     requires ways { AreWaysFor unit.now ways.now }
     ensures { IfOk result (AreOutboxes unit.now (Listed ways.now) ways.now.nexts) }
 {

@@ -6,7 +6,7 @@ ghost use Rattle.psy_base.specs.declared.limits.TheConstants.{QUEUE};
 ghost use Rattle.psy_meaning.specs.KnownWays.{Listed};
 ghost use Rattle.psy_meaning.specs.ListedWays.{AreWaysFor};
 ghost use Rattle.psy_meaning.specs.QueueSizes.{AreQueues, PassesTable};
-ghost use Rattle.psy_meaning.specs.Units.{IsOfText};
+ghost use Rattle.psy_meaning.specs.Units.{IsBare};
 ghost use Rattle.psy_graph.specs.Graphs.{AreGraphsBy};
 ghost use Rattle.psy_sizes.specs.declared.fault.SizeFault.TheVariants.{Memory as no_memory};
 ghost use Rattle.psy_sizes.specs.Queues.{IsAtFault, IsKeptQueue, IsQueueFault};
@@ -30,7 +30,7 @@ fn queue(
     ways: &Ways,
     stream: u32,
 ) -> Result<u32, SizeFault>
-    requires text { IsOfText unit.now }
+    requires bare { IsBare unit.now }
     requires ways { AreWaysFor unit.now ways.now }
     requires graphs { AreGraphsBy unit.now ways.now.nexts graphs.now }
     requires stream { stream < length unit.now.streams }
@@ -57,7 +57,7 @@ pub fn queues(
     graphs: &[Graph],
     ways: &Ways,
 ) -> Result<Items<u32>, SizeFault>
-    requires text { IsOfText unit.now }
+    requires bare { IsBare unit.now }
     requires ways { AreWaysFor unit.now ways.now }
     requires graphs { AreGraphsBy unit.now ways.now.nexts graphs.now }
     ensures queues { IfOk result (AreQueues unit.now (Listed ways.now) ways.now.nexts) }

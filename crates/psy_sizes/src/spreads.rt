@@ -7,7 +7,7 @@ ghost use Rattle.psy_base.specs.Paths.{FitsFirstFree, IsGreatestWeight};
 ghost use Rattle.psy_meaning.specs.KnownWays.{Listed};
 ghost use Rattle.psy_meaning.specs.ListedWays.{AreWaysFor};
 ghost use Rattle.psy_meaning.specs.QueueSizes.{AreSendEdges, IsSendEdge, IsSpread, IsSpreadBelow, IsWindow, PassesTable};
-ghost use Rattle.psy_meaning.specs.Units.{IsOfText};
+ghost use Rattle.psy_meaning.specs.Units.{IsBare};
 ghost use Rattle.psy_window.specs.Windows.{IsEdge};
 ghost use Rattle.psy_graph.specs.Graphs.{AreGraphsBy, HasGraphBy, spot_of};
 ghost use Rattle.psy_sizes.specs.declared.fault.SizeFault.TheVariants.{Cells as many_cells, Memory as no_memory};
@@ -97,7 +97,7 @@ fn spread(
     stream: u32,
     top: u32,
 ) -> Result<u64, SizeFault>
-    requires text { IsOfText unit.now }
+    requires bare { IsBare unit.now }
     requires ways { AreWaysFor unit.now ways.now }
     requires number { number < length unit.now.agents }
     requires graph { HasGraphBy unit.now ways.now.nexts number graph.now }
@@ -133,7 +133,7 @@ fn spread_by(
     stream: u32,
     top: u32,
 ) -> Result<u64, SizeFault>
-    requires text { IsOfText unit.now }
+    requires bare { IsBare unit.now }
     requires ways { AreWaysFor unit.now ways.now }
     requires number { number < length unit.now.agents }
     requires graph { HasGraphBy unit.now ways.now.nexts number graph.now }
@@ -161,7 +161,7 @@ pub fn spreads(
     stream: u32,
     top: u32,
 ) -> Result<u64, SizeFault>
-    requires text { IsOfText unit.now }
+    requires bare { IsBare unit.now }
     requires ways { AreWaysFor unit.now ways.now }
     requires graphs { AreGraphsBy unit.now ways.now.nexts graphs.now }
     requires top { IsTop unit.now (Listed ways.now) ways.now.nexts stream top }

@@ -8,7 +8,7 @@ ghost use Rattle.psy_meaning.specs.KnownWays.{Listed};
 ghost use Rattle.psy_meaning.specs.ListedWays.{AreWaysFor};
 ghost use Rattle.psy_meaning.specs.QueueSizes.{MayLast};
 ghost use Rattle.psy_meaning.specs.RingSizes.{agent_timing};
-ghost use Rattle.psy_meaning.specs.Units.{IsOfText};
+ghost use Rattle.psy_meaning.specs.Units.{IsBare};
 ghost use Rattle.psy_graph.specs.Graphs.{AreGraphsBy, HasGraphBy};
 ghost use Rattle.psy_sizes.specs.Queues.{HasLength, IsTop};
 
@@ -33,7 +33,7 @@ fn longest(first: u32, edges: &[Edge]) -> u64
 
 /// The most ticks before the first action of the agent of this number, or from one to the next.
 fn longest_of_agent(unit: &Unit, graph: &Graph, ways: &Ways, number: u32) -> u64
-    requires text { IsOfText unit.now }
+    requires bare { IsBare unit.now }
     requires ways { AreWaysFor unit.now ways.now }
     requires number { number < length unit.now.agents }
     requires graph { HasGraphBy unit.now ways.now.nexts number graph.now }
@@ -50,7 +50,7 @@ fn longest_of_agent(unit: &Unit, graph: &Graph, ways: &Ways, number: u32) -> u64
 
 /// The last date of a stream's window, counted from its first one. It is cut at the limit of a table, which no table of more dates keeps.
 pub fn top(unit: &Unit, graphs: &[Graph], ways: &Ways, stream: u32) -> u32
-    requires text { IsOfText unit.now }
+    requires bare { IsBare unit.now }
     requires ways { AreWaysFor unit.now ways.now }
     requires graphs { AreGraphsBy unit.now ways.now.nexts graphs.now }
     requires stream { stream < length unit.now.streams }

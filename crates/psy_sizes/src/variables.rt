@@ -9,7 +9,7 @@ ghost use Rattle.psy_clock.specs.Dates.{IsClock};
 ghost use Rattle.psy_meaning.specs.KnownWays.{Listed};
 ghost use Rattle.psy_meaning.specs.ListedWays.{AreWaysFor};
 ghost use Rattle.psy_meaning.specs.RingSizes.{IsRingSize, AreRings};
-ghost use Rattle.psy_meaning.specs.Units.{IsOfText};
+ghost use Rattle.psy_meaning.specs.Units.{IsBare};
 ghost use Rattle.psy_graph.specs.Graphs.{AreGraphsBy, HasGraphBy};
 ghost use Rattle.psy_sizes.specs.declared.fault.SizeFault.TheVariants.{LargeRing as large_ring, Memory as no_memory};
 ghost use Rattle.psy_sizes.specs.Faults.{IsFaultBy};
@@ -72,7 +72,7 @@ fn most_of_agent(
     variable: u32,
     clock: Clock,
 ) -> u64
-    requires text { IsOfText unit.now }
+    requires bare { IsBare unit.now }
     requires ways { AreWaysFor unit.now ways.now }
     requires number { number < length unit.now.agents }
     requires graph { HasGraphBy unit.now ways.now.nexts number graph.now }
@@ -98,7 +98,7 @@ fn most_of_agent(
 
 /// The same of all agents.
 fn most_of_all(unit: &Unit, graphs: &[Graph], ways: &Ways, variable: u32, clock: Clock) -> u64
-    requires text { IsOfText unit.now }
+    requires bare { IsBare unit.now }
     requires ways { AreWaysFor unit.now ways.now }
     requires graphs { AreGraphsBy unit.now ways.now.nexts graphs.now }
     requires clock { IsClock clock }
@@ -113,7 +113,7 @@ fn most_of_all(unit: &Unit, graphs: &[Graph], ways: &Ways, variable: u32, clock:
 
 /// The size of the ring of a variable.
 fn ring(unit: &Unit, graphs: &[Graph], ways: &Ways, variable: u32) -> Result<u32, SizeFault>
-    requires text { IsOfText unit.now }
+    requires bare { IsBare unit.now }
     requires ways { AreWaysFor unit.now ways.now }
     requires graphs { AreGraphsBy unit.now ways.now.nexts graphs.now }
     requires variable { variable < length unit.now.variables }
@@ -139,7 +139,7 @@ pub fn rings(
     graphs: &[Graph],
     ways: &Ways,
 ) -> Result<Items<u32>, SizeFault>
-    requires text { IsOfText unit.now }
+    requires bare { IsBare unit.now }
     requires ways { AreWaysFor unit.now ways.now }
     requires graphs { AreGraphsBy unit.now ways.now.nexts graphs.now }
     ensures rings { IfOk result (AreRings unit.now (Listed ways.now) ways.now.nexts) }

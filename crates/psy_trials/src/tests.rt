@@ -7,4 +7,5 @@ mod flow;
 mod processors;
 mod tokens;
 mod trees;
+mod ways;
 mod widths;

@@ -31,7 +31,9 @@ fn run_of(alloc: Global, kernel: &mut Kernel) -> Option<SinkVec>
 /// What its run writes. None where memory ran out.
 pub fn written(alloc: Global) -> Option<SinkVec> {
     let text = Vec::from_slice(alloc, COUNTER).ok()?;
-    let mut kernel = kernel_of(alloc, &text, LAST)?;
+    let Ok(mut kernel) = kernel_of(alloc, &text, LAST) else {
+        return None;
+    };
     run_of(alloc, &mut kernel)
 }
 

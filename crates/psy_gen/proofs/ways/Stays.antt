@@ -1,6 +1,6 @@
 -- The code of an agent stays in itself, and what it names is there.
 use Rattle.std.proofs.Common.{◌≡◌, ℕ, suc, ◌+◌, ◌<◌, ◌≤◌, List, [], ◌∷◌, ◌++◌, map, length, Some, None, refl, sym, ap, subst, ◌∙◌, inl, inr, arith}
-use Rattle.std.specs.Prelude.{slice_get, ◌==◌, ◌⊎◌, ⊤}
+use Rattle.std.specs.Prelude.{slice_get, true, ◌==◌, ◌⊎◌, ⊤}
 use Rattle.std.proofs.lemmas.List.{length-map}
 use Rattle.std.proofs.Math.Nat.{eq-or-lt_of_le}
 use Rattle.std.proofs.lemmas.Option.{slice_get_within}
@@ -20,7 +20,7 @@ use Rattle.psy_tree.specs.Paths.{total}
 use Rattle.psy_meaning.specs.CodeWays.{GoesOn, NamesThere}
 use Rattle.psy_meaning.specs.Depths.{loops}
 use Rattle.psy_meaning.specs.Sizes.{binary_size, expr_size, expr_size_step, stmt_size, stmts_size, stmt_size_step}
-use Rattle.psy_meaning.specs.Sound.{Scope, Each, IsSoundExpr, IsSoundStmt, agent_scope, sound_expr_step, sound_stmt_step}
+use Rattle.psy_meaning.specs.Sound.{Scope, Each, HasCopy, HasStream, IsSoundExpr, IsSoundStmt, agent_scope, sound_expr_step, sound_stmt_step}
 use Rattle.psy_meaning.proofs.lemmas.Eaches.{each-append}
 use Rattle.psy_meaning.proofs.lemmas.SoundParts.{exprs_natural, stmts_natural}
 use Rattle.psy_gen.specs.Emission.{Layout, Operand, Part, Placed, Places, base_of, cells_in_slot, binary_code, arguments_code, expr_code_step, expr_code}
@@ -31,6 +31,7 @@ use Rattle.psy_gen.proofs.Basics.{some_is}
 use Rattle.psy_gen.proofs.Equations.{operand, code_roll, size_roll, part, placed, block_size_is, placed_size_is, stmt_roll, stmt_size_roll}
 use Rattle.psy_gen.proofs.Lengths.{expr_length, stmt_length, stmts_length}
 use Rattle.psy_gen.proofs.ways.Kinds.{IsPlain, Forks, plain_on, fork_on}
+use Rattle.psy_gen.proofs.ways.Owned.{owned_low}
 
 module _ (unit : Whole) (number : ℕ) (agent : AgentDecl) (low high : ℕ) where
   abbrev sc : Scope
@@ -55,21 +56,19 @@ module _ (unit : Whole) (number : ℕ) (agent : AgentDecl) (low high : ℕ) wher
 
   -- ---- instructions
 
-  plain_names : (i : Instr) → IsPlain i → NamesThere unit agent i
-  plain_names (instr.Past variable back) h = absurd h
-  plain_names (instr.Send stream after clock) h = absurd h
-  plain_names (instr.Advance point) h = absurd h
-  plain_names _ h = tt {0}
-
-  plain : (i : Instr) (p : ℕ) → IsPlain i → low ≤ p → p + 1 ≤ high → Remains i p
-  plain i p is above below = record {
+  plain : (i : Instr) (p : ℕ) → IsPlain i → NamesThere unit agent i → low ≤ p → p + 1 ≤ high → Remains i p
+  plain i p is there above below = record {
     on = λ next e.
-        (let there = plain_on i p next is e in (omega (arith, there, above), omega (arith, there, below)));
-    named = plain_names i is;
+        (let goes = plain_on i p next is e in (omega (arith, goes, above), omega (arith, goes, below)));
+    named = there;
   }
 
   fork_names : (i : Instr) (to : ℕ) → Forks i to → NamesThere unit agent i
+  fork_names (instr.LoadCopy variable) to h = absurd h
+  fork_names (instr.StoreCopy variable) to h = absurd h
   fork_names (instr.Past variable back) to h = absurd h
+  fork_names (instr.Ready stream) to h = absurd h
+  fork_names (instr.Take stream) to h = absurd h
   fork_names (instr.Send stream after clock) to h = absurd h
   fork_names (instr.Advance point) to h = absurd h
   fork_names _ to h = tt {0}
@@ -83,6 +82,14 @@ module _ (unit : Whole) (number : ℕ) (agent : AgentDecl) (low high : ℕ) wher
 
   jump : (p to : ℕ) → IsIn to → Remains (instr.Jump to) p
   jump p to there = record { on = λ next e. subst IsIn (sym e) there; named = tt {0} }
+
+  -- ---- names
+
+  copy_there : (variable : ℕ) → HasCopy sc variable → variable < length unit.variables
+  copy_there variable (place, got) = owned_low number 0 (length unit.variables) place variable unit.variables (omega arith) got
+
+  stream_there : (stream : ℕ) → HasStream sc stream → stream < length unit.streams
+  stream_there stream got = omega (arith, slice_get_within sc.streams stream true got, length-map unit.streams (λ s. s.receiver == number))
 
   -- ---- expressions
 
@@ -117,7 +124,7 @@ module _ (unit : Whole) (number : ℕ) (agent : AgentDecl) (low high : ℕ) wher
         let b = expr_size r.0 in
         behind l.0 p (expr_code layout r.0 (p + a) ++ instr.Binary o w ∷ []) (l.1 p above (omega (arith, below)) first)
         (behind r.0 (p + a) (instr.Binary o w ∷ []) (r.1 (p + a) (omega (arith, above)) (omega (arith, below)) second)
-        (plain (instr.Binary o w) (p + a + b) (tt {0}) (omega (arith, above)) (omega (arith, below)), tt {0}))
+        (plain (instr.Binary o w) (p + a + b) (tt {0}) (tt {0}) (omega (arith, above)) (omega (arith, below)), tt {0}))
 
     lazy : (test : ℕ → Instr) (forks : (to : ℕ) → Forks (test to) to) (l r : Known) (p : ℕ) → low ≤ p → p + (expr_size l.0 + (expr_size r.0 + 2)) ≤ high
         → IsSoundExpr sc l.0 → IsSoundExpr sc r.0
@@ -131,7 +138,7 @@ module _ (unit : Whole) (number : ℕ) (agent : AgentDecl) (low high : ℕ) wher
         behind l.0 p (test to ∷ (expr_code layout r.0 middle ++ instr.Truth ∷ [])) (l.1 p above (omega (arith, below)) first) (
           fork (test to) (p + a) to (forks to) (omega (arith, above)) (omega (arith, below)) (omega (arith, above), omega (arith, below)),
           behind r.0 middle (instr.Truth ∷ []) (r.1 middle (omega (arith, above)) (omega (arith, below)) second)
-              (plain instr.Truth (middle + b) (tt {0}) (omega (arith, above)) (omega (arith, below)), tt {0}),
+              (plain instr.Truth (middle + b) (tt {0}) (tt {0}) (omega (arith, above)) (omega (arith, below)), tt {0}),
         )
 
     binary : (o : Op2) (w : Width) (l r : Known) (p : ℕ) → low ≤ p → p + (expr_size l.0 + (expr_size r.0 + binary_size o)) ≤ high → IsSoundExpr sc l.0
@@ -141,18 +148,18 @@ module _ (unit : Whole) (number : ℕ) (agent : AgentDecl) (low high : ℕ) wher
     binary op.OrOr w l r p above below first second = lazy instr.OrTest (λ to. refl) l r p above below first second
     binary o w l r p above below first second = eager o w l r p above below first second
 
-    leaf : (i : Instr) (p : ℕ) → IsPlain i → low ≤ p → p + 1 ≤ high → Stays p (i ∷ [])
-    leaf i p is above below = (plain i p is above below, tt {0})
+    leaf : (i : Instr) (p : ℕ) → IsPlain i → NamesThere unit agent i → low ≤ p → p + 1 ≤ high → Stays p (i ∷ [])
+    leaf i p is there above below = (plain i p is there above below, tt {0})
 
     step : (y : Expr-F Known) (p : ℕ) → let x = map-Expr Known Expr tree y in low ≤ p → p + expr_size_step (map-Expr Expr ℕ expr_size x) ≤ high
         → sound_expr_step sc Expr (λ z. z) (IsSoundExpr sc) x
         → Stays p (expr_code_step layout (map-Expr Expr Operand (operand layout) x) p)
-    step (Expr-F.Number n) p above below sound = leaf (instr.Push n) p (tt {0}) above below
-    step (Expr-F.Slot slot) p above below sound = leaf (instr.Load (base_of layout slot)) p (tt {0}) above below
-    step (Expr-F.Copy variable) p above below sound = leaf (instr.LoadCopy variable) p (tt {0}) above below
+    step (Expr-F.Number n) p above below sound = leaf (instr.Push n) p (tt {0}) (tt {0}) above below
+    step (Expr-F.Slot slot) p above below sound = leaf (instr.Load (base_of layout slot)) p (tt {0}) (tt {0}) above below
+    step (Expr-F.Copy variable) p above below sound = leaf (instr.LoadCopy variable) p (tt {0}) (copy_there variable sound) above below
     step (Expr-F.Cell slot index) p above below sound =
         behind index.0 p (instr.LoadCell (base_of layout slot) (cells_in_slot layout slot) ∷ []) (index.1 p above (omega (arith, below)) sound.1)
-        (leaf (instr.LoadCell (base_of layout slot) (cells_in_slot layout slot)) (p + expr_size index.0) (tt {0}) (omega (arith, above))
+        (leaf (instr.LoadCell (base_of layout slot) (cells_in_slot layout slot)) (p + expr_size index.0) (tt {0}) (tt {0}) (omega (arith, above))
         (omega (arith, below)))
     step (Expr-F.Past variable back) p above below (depth, got, less) = (
       record {
@@ -161,18 +168,18 @@ module _ (unit : Whole) (number : ℕ) (agent : AgentDecl) (low high : ℕ) wher
       },
       tt {0},
     )
-    step (Expr-F.Ready stream) p above below sound = leaf (instr.Ready stream) p (tt {0}) above below
-    step (Expr-F.Take stream) p above below sound = leaf (instr.Take stream) p (tt {0}) above below
+    step (Expr-F.Ready stream) p above below sound = leaf (instr.Ready stream) p (tt {0}) (stream_there stream sound) above below
+    step (Expr-F.Take stream) p above below sound = leaf (instr.Take stream) p (tt {0}) (stream_there stream sound) above below
     step (Expr-F.Unary operator width operand) p above below sound =
         behind operand.0 p (instr.Unary operator width ∷ []) (operand.1 p above (omega (arith, below)) sound)
-        (leaf (instr.Unary operator width) (p + expr_size operand.0) (tt {0}) (omega (arith, above)) (omega (arith, below)))
+        (leaf (instr.Unary operator width) (p + expr_size operand.0) (tt {0}) (tt {0}) (omega (arith, above)) (omega (arith, below)))
     step (Expr-F.Cast width operand) p above below sound =
         behind operand.0 p (instr.Cast width ∷ []) (operand.1 p above (omega (arith, below)) sound)
-        (leaf (instr.Cast width) (p + expr_size operand.0) (tt {0}) (omega (arith, above)) (omega (arith, below)))
+        (leaf (instr.Cast width) (p + expr_size operand.0) (tt {0}) (tt {0}) (omega (arith, above)) (omega (arith, below)))
     step (Expr-F.Binary operator width left right) p above below sound = binary operator width left right p above below sound.0 sound.1
     step (Expr-F.Call function arguments) p above below sound =
         through arguments (instr.Call function ∷ []) p above (omega (arith, below)) sound.1
-        (leaf (instr.Call function) (p + total (map expr_size (map tree arguments))) (tt {0}) (omega (arith, above)) (omega (arith, below)))
+        (leaf (instr.Call function) (p + total (map expr_size (map tree arguments))) (tt {0}) (tt {0}) (omega (arith, above)) (omega (arith, below)))
 
     layer : (y : Expr-F Known) → E (roll-Expr (map-Expr Known Expr tree y))
     layer y p above below sound =
@@ -298,9 +305,9 @@ module _ (unit : Whole) (number : ℕ) (agent : AgentDecl) (low high : ℕ) wher
         let stays = block_then (map stmt ks) (c + 1) start (instr.Jump again ∷ []) body.0
         (jump (start + stmts_size (map stmt ks)) again (omega (arith, above), omega (arith, below)), tt {0}) in (
           (
-            plain (instr.Zero c) p (tt {0}) above (omega (arith, below)),
+            plain (instr.Zero c) p (tt {0}) (tt {0}) above (omega (arith, below)),
             behind e again (instr.Guard c most ∷ (instr.JumpZero end ∷ code)) (expr_stays e again (omega (arith, above)) (omega (arith, below)) first) (
-              plain (instr.Guard c most) (again + n) (tt {0}) (omega (arith, above)) (omega (arith, below)),
+              plain (instr.Guard c most) (again + n) (tt {0}) (tt {0}) (omega (arith, above)) (omega (arith, below)),
               (
                 fork (instr.JumpZero end) (again + n + 1) end refl (omega (arith, above)) (omega (arith, below))
                     (omega (arith, above), omega (arith, below, size)),
@@ -319,12 +326,12 @@ module _ (unit : Whole) (number : ℕ) (agent : AgentDecl) (low high : ℕ) wher
         → Stays p (stmt_code_step layout (map-Stmt Stmt Part part_of x) c p) × Each IsIn (places_step (map-Stmt Stmt Placed placed x) p)
     stmt_step (Stmt-F.Set slot value) c p above below sound = (
       valued value (instr.Store (base_of layout slot)) p above below sound.1
-          (plain (instr.Store (base_of layout slot)) (p + expr_size value) (tt {0}) (omega (arith, above)) (omega (arith, below))),
+          (plain (instr.Store (base_of layout slot)) (p + expr_size value) (tt {0}) (tt {0}) (omega (arith, above)) (omega (arith, below))),
       tt,
     )
     stmt_step (Stmt-F.SetCopy variable value) c p above below sound = (
       valued value (instr.StoreCopy variable) p above below sound.1
-          (plain (instr.StoreCopy variable) (p + expr_size value) (tt {0}) (omega (arith, above)) (omega (arith, below))),
+          (plain (instr.StoreCopy variable) (p + expr_size value) (tt {0}) (copy_there variable sound.0) (omega (arith, above)) (omega (arith, below))),
       tt,
     )
     stmt_step (Stmt-F.SetCell slot index value) c p above below sound =
@@ -332,7 +339,7 @@ module _ (unit : Whole) (number : ℕ) (agent : AgentDecl) (low high : ℕ) wher
         let q = p + expr_size index in (
           behind index p (expr_code layout value q ++ i ∷ []) (expr_stays index p above (omega (arith, below)) sound.1)
               (valued value i q (omega (arith, above)) (omega (arith, below)) sound.2
-              (plain i (q + expr_size value) (tt {0}) (omega (arith, above)) (omega (arith, below)))),
+              (plain i (q + expr_size value) (tt {0}) (tt {0}) (omega (arith, above)) (omega (arith, below)))),
           tt,
         )
     stmt_step (Stmt-F.If test branch None) c p above below sound = if_stays test branch c p above below sound.0 sound.1

@@ -1,6 +1,6 @@
 //! A cycle: the agent that gets it, and what becomes of its action.
-ghost use Rattle.std.specs.Prelude.{◌≡◌, ◌≢◌, ℕ, ◌+◌, ◌*◌, ◌-◌, ◌^◌, ◌<◌, ◌≤◌, List, [], ◌∷◌, Option, Some, None, IsSome, length, nat_lt, slice_get, slice_set};
-ghost use Rattle.std.specs.Prelude.{true, false, ℤ};
+ghost use Rattle.std.specs.Prelude.{◌≡◌, ◌≢◌, ℕ, ◌+◌, ◌*◌, ◌-◌, ◌^◌, ◌<◌, ◌≤◌, List, [], ◌∷◌, Option, Some, None, length, nat_lt, slice_get, slice_set};
+ghost use Rattle.std.specs.Prelude.{IsFalse, IsSome, IsTrue, true, false, ℤ};
 ghost use Rattle.std.specs.List.{AllPairs};
 ghost use Rattle.psy_budget.specs.declared.charge.Stall.{Stall};
 ghost use Rattle.psy_code.specs.Execution.{copy_of};
@@ -209,7 +209,7 @@ fn last_date(date: Option<u64>) -> u64
 /// In a run up to a date, from wherever it begins, of each agent's actions the last alone may be pending; and where it is, it can get the next
 /// cycle, sees by the rings and the queues what it saw at its start, and looks no further back than the rings hold, whatever other agents did
 /// since the date. A cycle that nobody gets reaches for none.
-fn gets(until: u32)
+pub(super) fn gets(until: u32)
     ensures most { until ≤ 4294967295 }
     ensures over { (plan : Plan) (opening : Opening) (inputs : List (List ℤ)) (script : Script) (date cycle agent : ℕ)
         → IsCycleOf plan opening inputs script date cycle
@@ -246,8 +246,9 @@ fn gets(until: u32)
 
 impl Engine {
     /// Does cycles of a processor in a row, from its next one on: of its pending actions, the one of the earliest deadline gets them, until it is
-    /// over; at most so many, up to the next date and up to the cycle from which another order is in force. It takes no memory.
-    pub(crate) fn give(&mut self, processor: u32, most: u64)
+    /// over; at most so many, up to the next date and up to the cycle from which another order is in force. Tells whether an action is over with
+    /// the last of them. It takes no memory.
+    pub(crate) fn give(&mut self, processor: u32, most: u64) -> bool
         requires known { processor < length self.old.done }
         requires early { self.old.dates ≤ self.old.plan.until }
         requires some { 1 ≤ most }
@@ -259,7 +260,9 @@ impl Engine {
             × (done_on self.new processor ≤ done_on self.old processor + most) }
         ensures steady { (between : ℕ) → done_on self.old processor < between → between < done_on self.new processor
             → IsOverOn self.old processor between → ⊥ }
-        ensures over { done_on self.new processor < done_on self.old processor + most → IsOverOn self.old processor (done_on self.new processor) }
+        ensures over { IsTrue result → IsOverOn self.old processor (done_on self.new processor) }
+        ensures goes { IsFalse result → IsOverOn self.old processor (done_on self.new processor) → ⊥ }
+        ensures whole { IsFalse result → done_on self.new processor ≡ done_on self.old processor + most }
     {
         gets(self.plan.until);
         let number = processor as usize;
@@ -279,6 +282,7 @@ impl Engine {
                     self.script.orders.as_slice(),
                     cycle + most,
                 );
+                false
             }
             Some(agent) => {
                 let own = agent as usize;
@@ -309,6 +313,9 @@ impl Engine {
                 );
                 if !lasted.goes {
                     drop_chosen(&mut self.servers[number], agent);
+                    true
+                } else {
+                    false
                 }
             }
         }

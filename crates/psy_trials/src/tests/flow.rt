@@ -4,8 +4,7 @@ ghost use Rattle.psy_meaning.specs.Units.{IsOfText};
 ghost use Rattle.psy_flow.specs.Agents.{IsOfSome};
 
 use crate::texts::unit_of;
-use psy_base::{Items, SendWay};
-use psy_flow::{looks, most_sends, next_points, ways, worst};
+use psy_flow::{looks, most_sends, next_points, worst};
 use psy_tree::{AgentDecl, Unit};
 use std::alloc::AllocGlobal;
 use std::process::Abort;
@@ -17,8 +16,8 @@ const HEAD: &str =
 const FUNCTIONS: &str =
     "int f(int p) { if (p) { return 1; } } int g(int p) { return f(p) + f(p); }";
 
-// The unit of an agent of these statements.
-fn unit_with(rt: &(impl Abort + AllocGlobal), stmts: &str) -> Result<Unit, Fail>
+/// The unit of an agent of these statements.
+pub fn unit_with(rt: &(impl Abort + AllocGlobal), stmts: &str) -> Result<Unit, Fail>
     ensures { IfOk result (λ unit. IsOfText unit) }
 {
     let text = format!(in rt.alloc();
@@ -158,68 +157,5 @@ fn looks_on_some_way(rt: HostRuntime) -> Result<(), Fail> {
             "from {point}: {stmts}"
         );
     }
-    Ok(())
-}
-
-const WAYS: &str =
-    "if (n) { send past(v, 0) to s after 2 on c; send 2 to s after 0 on c; advance 1 on c; send past(w, 0) to r after 0 on c; } else { send 4 to s after 0 on c; advance 2 on c; }";
-
-// Compares the lists of one agent, by point.
-fn expect_lists(rt: &impl Abort, lists: &Items<Items<Items<u32>>>, wanted: &[&[u32]]) {
-    assert_eq!(rt; lists.len(), 1);
-    let own = &lists.as_slice()[0];
-    assert_eq!(rt; own.len(), wanted.len());
-    for (point, list) in wanted.iter().enumerate() {
-        assert!(rt; point < own.len());
-        assert_eq!(rt;
-            own.as_slice()[point].as_slice(),
-            *list,
-            "from point {point}"
-        );
-    }
-}
-
-// The same for sends: where the ways end, the stream and the most sends.
-fn expect_sends(
-    rt: &impl Abort,
-    lists: &Items<Items<Items<SendWay>>>,
-    wanted: &[&[(u32, u32, u64)]],
-) {
-    assert_eq!(rt; lists.len(), 1);
-    let own = &lists.as_slice()[0];
-    assert_eq!(rt; own.len(), wanted.len());
-    for (point, list) in wanted.iter().enumerate() {
-        assert!(rt; point < own.len());
-        let found = own.as_slice()[point].as_slice();
-        assert_eq!(rt; found.len(), list.len(), "from point {point}");
-        for (place, (to, stream, most)) in list.iter().enumerate() {
-            assert!(rt; place < found.len());
-            let way = SendWay {
-                to: *to,
-                stream: *stream,
-                most: *most,
-            };
-            assert_eq!(rt; found[place], way, "from point {point}");
-        }
-    }
-}
-
-#[test]
-fn ways_of_statements_are_listed(rt: HostRuntime) -> Result<(), Fail> {
-    let unit = unit_with(&rt, WAYS)?;
-    let ways = ways(rt.alloc(), &unit)?;
-    expect_lists(&rt, &ways.nexts, &[&[1, 2], &[1, 2], &[1, 2]]);
-    expect_lists(&rt, &ways.looks, &[&[0], &[0, 1], &[0]]);
-    expect_sends(
-        &rt,
-        &ways.sends,
-        &[
-            &[(1, 0, 2), (2, 0, 1)],
-            &[(1, 0, 2), (1, 1, 1), (2, 0, 1), (2, 1, 1)],
-            &[(1, 0, 2), (2, 0, 1)],
-        ],
-    );
-    // By a clock of each tick, `after 2` takes 3 * 1 - 1 ticks at most, and `after 0` none.
-    assert_eq!(rt; ways.delays.as_slice(), [2, 0].as_slice());
     Ok(())
 }

@@ -18,28 +18,26 @@ fn the_least_length_that_does_not_fit_is_told(rt: HostRuntime) -> Result<(), Fai
         Items::from_slice(rt.alloc(), &FAST)?,
         Items::from_slice(rt.alloc(), &SLOW)?,
     ];
-    assert_eq!(rt; feasible(&fits, &[0, 0], 10, 10), Verdict::Yes, "90 of 100");
-    assert_eq!(rt; feasible(&fits, &[0, 0], 9, 10), Verdict::Yes, "90 of 90");
+    assert_eq!(rt; feasible(&fits, 10, 10), Verdict::Yes, "90 of 100");
+    assert_eq!(rt; feasible(&fits, 9, 10), Verdict::Yes, "90 of 90");
     let passes = [
         Items::from_slice(rt.alloc(), &GREEDY)?,
         Items::from_slice(rt.alloc(), &SLOW)?,
     ];
     let no = Verdict::No {
         length: 10,
-        processor: 0,
         demand: 110,
     };
-    assert_eq!(rt; feasible(&passes, &[0, 0], 10, 10), no, "110 of 100");
+    assert_eq!(rt; feasible(&passes, 10, 10), no, "110 of 100");
     let early = Verdict::No {
         length: 2,
-        processor: 0,
         demand: 12,
     };
     assert_eq!(rt;
-        feasible(&passes, &[0, 0], 5, 10),
+        feasible(&passes, 5, 10),
         early,
         "12 of 10 comes before 110 of 50"
     );
-    assert_eq!(rt; feasible(&[], &[], 0, 100), Verdict::Yes, "no agents");
+    assert_eq!(rt; feasible(&[], 0, 100), Verdict::Yes, "no agents");
     Ok(())
 }

@@ -1,8 +1,7 @@
 -- What each loop of `demand::feasible` keeps.
 use Rattle.std.proofs.Common.{ℕ, ◌*◌, ◌<◌, ◌≤◌}
-use Rattle.psy_base.specs.declared.limits.TheConstants.{PROCESSORS}
 use Rattle.psy_demand.specs.Demand.{demand}
 use Rattle.psy_demand.proofs.demand.feasible.Given as goal
 
 abbrev pub invariant-loop-length : goal.invariant-loop-length
-invariant-loop-length l = (less other : ℕ) → 1 ≤ less → less < l.length → other < PROCESSORS → demand l.lists l.homes other less ≤ l.quantum * less
+invariant-loop-length l = (less : ℕ) → 1 ≤ less → less < l.length → demand l.lists less ≤ l.quantum * less

@@ -1,8 +1,9 @@
 -- What each loop of `code_lists::all_sends` keeps.
-use Rattle.std.proofs.Common.{◌≡◌, ℕ, List, false, length, replicate, slice_get, Some}
+use Rattle.std.proofs.Common.{◌≡◌, ◌<◌, ℕ, List, false, length, replicate, slice_get, Some}
 use Rattle.psy_base.specs.declared.ways.SendWay.{SendWay}
 use Rattle.psy_tree.specs.Parts.{agent_at}
 use Rattle.psy_meaning.specs.CodeWays.{AreCodeSends, budget_of, place_of}
+use Rattle.psy_flow.specs.CodeLists.{HaveMostsOf}
 use Rattle.psy_flow.specs.Listed.{AreOf}
 use Rattle.psy_flow.proofs.code_lists.all_sends.Given as goal
 
@@ -13,4 +14,5 @@ invariant-agents l = record {
   sends : length l.sends ≡ l.number;
   each : (number : ℕ) (lists : List (List SendWay)) → slice_get l.sends number ≡ Some lists
       → AreOf (agent_at l.unit number) (λ point. AreCodeSends l.code.instrs (place_of l.code number point) (budget_of l.unit number point)) lists;
+  judged : (number : ℕ) → number < l.number → HaveMostsOf l.unit l.code number;
 }

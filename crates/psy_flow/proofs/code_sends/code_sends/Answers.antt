@@ -4,10 +4,12 @@ use Rattle.std.specs.List.{Contains}
 use Rattle.std.proofs.lemmas.List.{length-replicate, take_all}
 use Rattle.std.proofs.lemmas.List.Elements.{Contains-get_or}
 use Rattle.psy_base.specs.declared.ways.SendWay.{SendWay}
-use Rattle.psy_meaning.specs.CodeWays.{IsMostCodeSends}
+use Rattle.psy_meaning.specs.CodeWays.{HaveMosts, IsMostCodeSends}
+use Rattle.psy_flow.specs.CodeLists.{HaveMostsTo}
 use Rattle.psy_flow.specs.Listed.{AreSendsAmong, AreSendsUpTo}
 use Rattle.psy_flow.specs.Reach.{marked}
 use Rattle.psy_flow.proofs.CodeSendCounts.{one_most_code, sent_there, some_sends}
+use Rattle.psy_flow.proofs.Judged.{one_more_point}
 use Rattle.psy_flow.proofs.MarkedNumbers.{length-marked}
 use Rattle.psy_flow.proofs.SendsUpTo.{among_all, among_up, up_among}
 use Rattle.psy_flow.proofs.code_sends.code_sends.Goals as goal
@@ -45,6 +47,8 @@ nexts-preserved c =
       ways = up_among Most one nexts c.args.streams c.requires.nexts.rise there i c.add_code_sends.new.ways c.nexts-test.true
           (subst (λ n. AreSendsUpTo Most (get_or nexts i 0) n c.add_code_sends.new.ways) streams
           (c.in_ok-add_code_sends.ensures.ways (among_up Most one nexts c.args.streams c.requires.nexts.rise there i c.nexts.ways c.nexts-test.true c.nexts.invariant.ways)));
+      judged = one_more_point instrs c.args.from c.args.budget c.args.streams nexts i c.nexts-test.true c.nexts.invariant.judged
+          (subst (λ n. HaveMostsTo instrs c.args.from c.args.budget n (get_or nexts i 0)) streams c.in_ok-add_code_sends.ensures.judged);
     }
 
 pub returns-clause-sends : goal.returns-clause-sends
@@ -58,3 +62,9 @@ returns-clause-sends c =
     let (rises, each) = among_all Most one nexts c.args.streams c.requires.nexts.rise there c.nexts.ways
     (subst (λ ns. AreSendsAmong Most ns c.nexts.ways) (take_all c.nexts.to-index nexts c.nexts-test.false) c.nexts.invariant.ways) in
     record { rise = rises; each = each }
+
+pub returns-clause-judged : goal.returns-clause-judged
+returns-clause-judged c =
+    let instrs = c.args.instrs.now in
+    let nexts = c.args.nexts.now in
+    subst (HaveMosts instrs c.args.from c.args.budget c.args.streams) (take_all c.nexts.to-index nexts c.nexts-test.false) c.nexts.invariant.judged

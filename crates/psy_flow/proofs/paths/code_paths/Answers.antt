@@ -14,7 +14,7 @@ pub found_lists-requires-clause-few : goal.found_lists-requires-clause-few
 found_lists-requires-clause-few c =
     let unit = c.args.unit.now in
     let few : (i : ℕ) (a : AgentDecl) → slice_get unit.agents i ≡ Some a → length a.points ≤ POINTS = λ i a at.
-    (subst (IsBareAgent unit) (get_or_from_slice_get unit.agents i a a at) (c.requires.text.bare.agents i a (slice_get_within unit.agents i a at))).limit in
+    (subst (IsBareAgent unit) (get_or_from_slice_get unit.agents i a a at) (c.requires.bare.agents i a (slice_get_within unit.agents i a at))).limit in
     omega (arith, c.most_points.ensures, most_below POINTS unit.agents few)
 
 pub returns : goal.returns

@@ -41,7 +41,7 @@ told c =
     ∙ ap (timing unit.clocks (agent_at unit number).points) follows
 
 pub graph_by-requires : goal.graph_by-requires
-graph_by-requires c = subst IsTimed (sym (told (goal.at.graph_by-requires c).After-as_slice-5)) (timed_for c.args.unit.now c.args.ways.now c.requires.text c.requires.ways c.args.number c.requires.number)
+graph_by-requires c = subst IsTimed (sym (told (goal.at.graph_by-requires c).After-as_slice-5)) (timed_for c.args.unit.now c.args.ways.now c.requires.bare c.requires.ways c.args.number c.requires.number)
 
 pub returns-clause-graph : goal.returns-clause-graph
 returns-clause-graph c =

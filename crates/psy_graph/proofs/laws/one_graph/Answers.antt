@@ -46,7 +46,7 @@ returns-clause-near c unit graphs text are number d less =
     graph_near c.distances.ensures.again c.distances.ensures.late c.distances.ensures.near timing (subst IsTimed (sym is) its) (slice_index_or graphs number d) drawn small
 
 pub returns-clause-timed : goal.returns-clause-timed
-returns-clause-timed c unit ways number text are less = timed_for unit ways text are number less
+returns-clause-timed c unit ways number bare are less = timed_for unit ways bare are number less
 
 pub returns-clause-of_text : goal.returns-clause-of_text
 returns-clause-of_text c unit number timing text (agent, nexts, got, follow, is) =

@@ -1,7 +1,7 @@
 -- What is left of the proof of `laws::slices`.
-use Rattle.std.proofs.Common.{refl}
+use Rattle.std.proofs.Common.{◌*◌, refl}
 use Rattle.psy_history.specs.Processors.{processors}
-use Rattle.psy_kernel.proofs.SliceEnds.{as_cycles, due_on, one_end}
+use Rattle.psy_kernel.proofs.SliceEnds.{as_cycles, due_before, due_on, one_end, up_to}
 use Rattle.psy_kernel.proofs.WholeCycles.{whole_done}
 use Rattle.psy_kernel.proofs.laws.slices.Goals as goal
 
@@ -16,3 +16,9 @@ returns-clause-cycles e p end is = as_cycles p end is
 
 pub returns-clause-due : goal.returns-clause-due
 returns-clause-due e p end n is due less = due_on p end n is due less
+
+pub returns-clause-tick : goal.returns-clause-tick
+returns-clause-tick e p more = up_to p (p.dates * p.plan.unit.quantum) more
+
+pub returns-clause-due_on : goal.returns-clause-due_on
+returns-clause-due_on e p n due less = due_before p n due less

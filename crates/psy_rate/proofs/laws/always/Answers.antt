@@ -6,4 +6,4 @@ pub returns-clause-line : goal.returns-clause-line
 returns-clause-line c = below_lines
 
 pub returns-clause-every : goal.returns-clause-every
-returns-clause-every c groups lines quantum horizon have are is feasible top = always groups lines quantum horizon have are is feasible top
+returns-clause-every c groups lines quantum horizon drawn are is feasible top = always c.greatest.ensures.some groups lines quantum horizon drawn are is feasible top

@@ -1,8 +1,8 @@
 -- What is left of the proof of `tight::demand`.
 use Rattle.std.proofs.Common.{arith}
 use Rattle.psy_lists.proofs.lemmas.Ranges.{sum_more}
-use Rattle.psy_demand.specs.Demand.{demand_of}
 use Rattle.psy_tree.specs.Parts.{homes}
+use Rattle.psy_report.specs.Tightness.{demand_of}
 use Rattle.psy_report.proofs.tight.demand.Goals as goal
 
 pub agents-preserved : goal.agents-preserved

@@ -1,8 +1,8 @@
 -- What each loop of `tight::demand` keeps.
 use Rattle.std.proofs.Common.{◌≡◌, ◌*◌, ◌^◌, ◌≤◌, sum_by}
 use Rattle.std.specs.List.{range_with_len}
-use Rattle.psy_demand.specs.Demand.{demand_of}
 use Rattle.psy_tree.specs.Parts.{homes}
+use Rattle.psy_report.specs.Tightness.{demand_of}
 use Rattle.psy_report.proofs.tight.demand.Given as goal
 
 abbrev pub invariant-agents : goal.invariant-agents

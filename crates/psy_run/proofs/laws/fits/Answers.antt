@@ -19,7 +19,7 @@ returns c plan ways stated are =
     let sizes = (c.listed_sizes.ensures.sizes unit ways plan.sizes text are).1 (subst (λ nexts. AreSizes unit (OfText unit) nexts plan.sizes) (sym same) stated.buffers) in
     record {
       ways = ways;
-      fits = fits_by unit plan.code ways stated.compiled.alike of (c.listed.ensures.alike unit ways text are) (λ agent less. c.one_graph.ensures.timed unit ways agent text of less) run;
+      fits = fits_by unit plan.code ways stated.compiled.alike of (c.listed.ensures.alike unit ways text are) (λ agent less. c.one_graph.ensures.timed unit ways agent text.bare of less) run;
       nexts = same;
       buffers = subst (λ nexts. AreSizes unit (Listed ways) nexts plan.sizes) same sizes;
       supplied = stated.supplied;

@@ -1,5 +1,5 @@
 -- What is left of the proof of `laws::one_answer`.
-use Rattle.psy_run.proofs.DecidedAnswers.{Answers-same, Answers-some}
+use Rattle.psy_run.proofs.DecidedAnswers.{Answers-same, Answers-some, refused-one}
 use Rattle.psy_run.proofs.DecidedSteps.{StepsDecide}
 use Rattle.psy_run.proofs.laws.one_answer.Goals as goal
 use Rattle.psy_run.proofs.laws.one_answer.Goals.{After-horizons}
@@ -53,3 +53,6 @@ returns-clause-same c words files = Answers-same (decide (goal.at.returns-clause
 
 pub returns-clause-some : goal.returns-clause-some
 returns-clause-some c words files = Answers-some (decide (goal.at.returns-clause-some c).After-horizons) files words
+
+pub returns-clause-refused : goal.returns-clause-refused
+returns-clause-refused c = refused-one (decide (goal.at.returns-clause-refused c).After-horizons)

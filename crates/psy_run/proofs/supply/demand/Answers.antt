@@ -19,28 +19,28 @@ pub criterion-requires-clause-known : goal.criterion-requires-clause-known
 criterion-requires-clause-known c =
     subst (All (λ home. home < PROCESSORS)) (sym (c.as_slice-2.ensures ∙ c.requires.homes)) (homes_known c.args.unit.now c.requires.text.bare)
 
-pub returns-in-Ok-Yes-clause-ok : goal.returns-in-Ok-Yes-clause-ok
-returns-in-Ok-Yes-clause-ok c =
+pub returns-in-Ok-Feasible-clause-ok : goal.returns-in-Ok-Feasible-clause-ok
+returns-in-Ok-Feasible-clause-ok c =
     let unit = c.args.unit.now in
     let graphs = c.args.graphs.now in
     let top = c.args.top in
-    let cells = has_cells top c.as_slice.result.now c.criterion.result c.in-Ok-Yes.field-0 c.in-Ok-Yes.is c.criterion.ensures.cells in
-    let feasible = c.in-Ok-Yes.ensures.yes.0 c.in-Ok-Yes.field-0-is in
+    let cells = has_cells top c.as_slice.result.now c.criterion.result c.in-Ok-Feasible.field-0 c.in-Ok-Feasible.is c.criterion.ensures.cells in
+    let feasible = c.in-Ok-Feasible.ensures.yes.0 c.in-Ok-Feasible.field-0-is in
     gives_then (windowing graphs top) (λ done. demanding unit graphs top) tt tt (subst (All (HasCells top)) c.as_slice.ensures cells)
     (subst (λ hs. AreFeasible hs (edges_of graphs) unit.quantum top) (c.as_slice-2.ensures ∙ c.requires.homes) (subst (λ gs. AreFeasible c.as_slice-2.result.now (edges_of gs) unit.quantum top) c.as_slice.ensures feasible))
 
-pub returns-in-Ok-No-clause-err : goal.returns-in-Ok-No-clause-err
-returns-in-Ok-No-clause-err c failed before after =
+pub returns-in-Ok-Overload-clause-err : goal.returns-in-Ok-Overload-clause-err
+returns-in-Ok-Overload-clause-err c failed before after =
     let unit = c.args.unit.now in
     let graphs = c.args.graphs.now in
     let top = c.args.top in
-    let within = c.in-Ok-No.length in
-    let processor = c.in-Ok-No.processor in
-    let passed = c.in-Ok-No.demand in
-    let cells = has_cells top c.as_slice.result.now c.criterion.result c.in-Ok-No.field-0 c.in-Ok-No.is c.criterion.ensures.cells in
-    let over = (c.in-Ok-No.ensures.no within processor passed).0 c.in-Ok-No.field-0-is in
-    let supply = c.from.result * c.from-in-Ok-No.result in
-    let product : supply ≡ unit.quantum * within = λ i. c.from.ensures i * c.from-in-Ok-No.ensures i in
+    let within = c.in-Ok-Overload.length in
+    let processor = c.in-Ok-Overload.processor in
+    let passed = c.in-Ok-Overload.demand in
+    let cells = has_cells top c.as_slice.result.now c.criterion.result c.in-Ok-Overload.field-0 c.in-Ok-Overload.is c.criterion.ensures.cells in
+    let over = (c.in-Ok-Overload.ensures.no within processor passed).0 c.in-Ok-Overload.field-0-is in
+    let supply = c.from.result * c.from-in-Ok-Overload.result in
+    let product : supply ≡ unit.quantum * within = λ i. c.from.ensures i * c.from-in-Ok-Overload.ensures i in
     halts_later (windowing graphs top) (λ done. demanding unit graphs top) failed before after tt _ (subst (All (HasCells top)) c.as_slice.ensures cells)
     (halts_refused (Infeasible within passed supply processor) (
       subst (λ hs. IsOverloadOn hs (edges_of graphs) unit.quantum top within processor passed) (c.as_slice-2.ensures ∙ c.requires.homes)

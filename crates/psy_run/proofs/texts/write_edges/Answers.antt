@@ -1,15 +1,18 @@
 -- What is left of the proof of `texts::write_edges`.
-use Rattle.std.proofs.Common.{◌∙◌, ◌+◌, flat_map, take}
-use Rattle.psy_run.specs.Texts.{edge_text}
-use Rattle.psy_run.proofs.TextLemmas.{items_more, items_split}
-use Rattle.psy_run.proofs.WritingLemmas.{Grew-item, GrewByFront-item}
+use Rattle.std.proofs.Common.{◌∙◌, arith}
+use Rattle.std.proofs.lemmas.List.{length-map}
+use Rattle.psy_base.specs.declared.edge.Edge.{Edge}
+use Rattle.psy_log.specs.Forms.{edge_line}
+use Rattle.psy_run.specs.Texts.{edge_lines}
+use Rattle.psy_run.proofs.CutLemmas.{cut_line, grew_line, grew_lines}
+use Rattle.psy_run.proofs.TextLemmas.{mapped_at}
 use Rattle.psy_run.proofs.texts.write_edges.Goals as goal
 
-pub returns-in-Err-clause-written : goal.returns-in-Err-clause-written
-returns-in-Err-clause-written g c =
+pub returns-in-Err-clause-wrote : goal.returns-in-Err-clause-wrote
+returns-in-Err-clause-wrote g c =
     let edges = c.args.edges.now in
     let i = c.edges.edge-index in
-    GrewByFront-item _ _ _ (flat_map edge_text (take i edges)) _ _ _ _ (items_more edge_text edges i _ c.edges-test.true) (items_split edge_text edges (i + 1)) c.edges.invariant.grew c.in-Err.ensures.written
+    cut_line (edge_lines edges) _ _ _ i _ (mapped_at (λ (e : Edge). edge_line e.from e.to e.len) edges i _ c.edges-test.true) c.edges.invariant.grew _ c.in-Err.ensures.wrote
 
 pub edges-preserved : goal.edges-preserved
 edges-preserved g c =
@@ -17,5 +20,10 @@ edges-preserved g c =
     let i = c.edges.edge-index in
     record {
       unfailed = c.in_default.ensures.unfailed ∙ c.edges.invariant.unfailed;
-      grew = Grew-item _ _ _ (flat_map edge_text (take i edges)) _ _ (items_more edge_text edges i _ c.edges-test.true) c.edges.invariant.grew c.in_default.ensures.written;
+      grew = grew_line (edge_lines edges) _ _ _ i _ (mapped_at (λ (e : Edge). edge_line e.from e.to e.len) edges i _ c.edges-test.true) c.edges.invariant.grew c.in_default.ensures.wrote;
     }
+
+pub returns-clause-wrote : goal.returns-clause-wrote
+returns-clause-wrote g c =
+    let edges = c.args.edges.now in
+    grew_lines (edge_lines edges) _ _ c.edges.edge-index (omega (arith, c.edges-test.false, length-map edges (λ (e : Edge). edge_line e.from e.to e.len))) c.edges.invariant.grew

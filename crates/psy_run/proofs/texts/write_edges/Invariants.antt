@@ -1,12 +1,13 @@
 -- What each loop of `texts::write_edges` keeps.
-use Rattle.std.proofs.Common.{◌≡◌, flat_map, take}
+use Rattle.std.proofs.Common.{◌≡◌, take}
 use Rattle.psy_door.specs.Growth.{Grew}
-use Rattle.psy_run.specs.Texts.{edge_text}
+use Rattle.psy_kernel.specs.Texts.{text_of}
+use Rattle.psy_run.specs.Texts.{edge_lines}
 use Rattle.psy_run.proofs.texts.write_edges.Given as goal
 
 abbrev pub invariant-edges : goal.invariant-edges
 invariant-edges g l =
     record {
       unfailed : g.S.Sink.faults l.out ≡ g.S.Sink.faults l.fn.out;
-      grew : Grew (g.S.Sink.held l.fn.out) (g.S.Sink.held l.out) (flat_map edge_text (take l.edge-index l.edges));
+      grew : Grew (g.S.Sink.held l.fn.out) (g.S.Sink.held l.out) (text_of (take l.edge-index (edge_lines l.edges)));
     }

@@ -1,16 +1,16 @@
 -- What is left of the proof of `texts::write_nodes`.
-use Rattle.std.proofs.Common.{◌∙◌, ◌+◌, take}
-use Rattle.psy_run.specs.Texts.{nodes_text}
-use Rattle.psy_run.proofs.TextLemmas.{nodes_more, nodes_split}
-use Rattle.psy_run.proofs.WritingLemmas.{Grew-item, GrewByFront-item}
+use Rattle.std.proofs.Common.{◌∙◌, arith}
+use Rattle.psy_run.specs.Texts.{node_lines}
+use Rattle.psy_run.proofs.CutLemmas.{cut_line, grew_line, grew_lines}
+use Rattle.psy_run.proofs.TextLemmas.{node_at, node_length}
 use Rattle.psy_run.proofs.texts.write_nodes.Goals as goal
 
-pub returns-in-Err-clause-written : goal.returns-in-Err-clause-written
-returns-in-Err-clause-written g c =
+pub returns-in-Err-clause-wrote : goal.returns-in-Err-clause-wrote
+returns-in-Err-clause-wrote g c =
     let nodes = c.args.nodes.now in
     let costs = c.args.costs.now in
     let i = c.nodes.number in
-    GrewByFront-item _ _ _ (nodes_text costs 0 (take i nodes)) _ _ _ _ (nodes_more costs nodes i _ c.nodes-test.true) (nodes_split costs nodes (i + 1)) c.nodes.invariant.grew c.in-Err.ensures.written
+    cut_line (node_lines costs 0 nodes) _ _ _ i _ (node_at costs nodes i _ c.nodes-test.true) c.nodes.invariant.grew _ c.in-Err.ensures.wrote
 
 pub nodes-preserved : goal.nodes-preserved
 nodes-preserved g c =
@@ -19,5 +19,11 @@ nodes-preserved g c =
     let i = c.nodes.number in
     record {
       unfailed = c.in_default.ensures.unfailed ∙ c.nodes.invariant.unfailed;
-      grew = Grew-item _ _ _ (nodes_text costs 0 (take i nodes)) _ _ (nodes_more costs nodes i _ c.nodes-test.true) c.nodes.invariant.grew c.in_default.ensures.written;
+      grew = grew_line (node_lines costs 0 nodes) _ _ _ i _ (node_at costs nodes i _ c.nodes-test.true) c.nodes.invariant.grew c.in_default.ensures.wrote;
     }
+
+pub returns-clause-wrote : goal.returns-clause-wrote
+returns-clause-wrote g c =
+    let nodes = c.args.nodes.now in
+    let costs = c.args.costs.now in
+    grew_lines (node_lines costs 0 nodes) _ _ c.nodes.number (omega (arith, c.nodes-test.false, node_length costs 0 nodes)) c.nodes.invariant.grew

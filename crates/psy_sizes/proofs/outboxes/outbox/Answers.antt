@@ -29,7 +29,7 @@ points-init c = no_point (Listed c.args.ways.now) c.args.agent c.len-streams.res
 
 pub overflow_cast-point : goal.overflow_cast-point
 overflow_cast-point c =
-    let few = (c.requires.text.bare.agents c.args.agent no_agent c.requires.agent).limit in
+    let few = (c.requires.bare.agents c.args.agent no_agent c.requires.agent).limit in
     let whole = count (goal.at.overflow_cast-point c).After-as_slice-nexts in
     omega (arith, few, whole, c.points-test.true)
 
@@ -67,7 +67,7 @@ returns c =
     let points = length (agent_at unit agent).points in
     let whole = count (goal.at.returns c).After-as_slice-nexts in
     let all : c.points.point ≡ points = omega (arith, whole, c.points-test.false) in
-    let timed = c.one_graph.ensures.timed unit lists agent c.requires.text c.requires.ways c.requires.agent in
+    let timed = c.one_graph.ensures.timed unit lists agent c.requires.bare c.requires.ways c.requires.agent in
     let to = get_or (get_or list 0 []) 0 0 in
     let follows = Contains-get_or (get_or list 0 []) 0 0 (omega (arith, timed.some 0 (omega (arith, timed.head)))) in
     let streams = length unit.streams in

@@ -24,7 +24,7 @@ send_edges-requires-clause-points c =
     let ways = c.args.ways.now in
     let number = c.args.number in
     subst (λ n. All (λ node. node.point < n) c.args.graph.now.nodes) (sym (sends_points unit ways c.requires.ways number c.requires.number))
-    (nodes_within (agent_timing unit ways.nexts number) c.args.graph.now c.requires.graph.0 (c.one_graph.ensures.timed unit ways number c.requires.text c.requires.ways c.requires.number))
+    (nodes_within (agent_timing unit ways.nexts number) c.args.graph.now c.requires.graph.0 (c.one_graph.ensures.timed unit ways number c.requires.bare c.requires.ways c.requires.number))
 
 pub send_edges-requires-clause-cut : goal.send_edges-requires-clause-cut
 send_edges-requires-clause-cut c = cut c.args.unit.now c.args.ways.now c.requires.ways c.args.number c.requires.number

@@ -20,7 +20,7 @@ spread_by-requires-clause-edges c =
     let graph = c.index-graphs-number.result in
     let less : number < length unit.agents = omega (arith, c.agents-test.true, c.agents.auto.number-end, c.requires.graphs.count) in
     let its = graph_read unit ways.nexts c.args.graphs.now number graph c.requires.graphs c.agents-test.true c.index-graphs-number.is in
-    c.one_graph.ensures.fit (agent_timing unit ways.nexts number) graph (c.one_graph.ensures.timed unit ways number c.requires.text c.requires.ways less) its.0
+    c.one_graph.ensures.fit (agent_timing unit ways.nexts number) graph (c.one_graph.ensures.timed unit ways number c.requires.bare c.requires.ways less) its.0
 
 pub returns-in_err-sum-clause-cause : goal.returns-in_err-sum-clause-cause
 returns-in_err-sum-clause-cause c =

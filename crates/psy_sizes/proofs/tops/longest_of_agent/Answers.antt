@@ -22,7 +22,7 @@ own c =
     c.index-as_slice-number.is ∙ ap (λ xs. get_or xs c.args.number agent) c.as_slice.ensures ∙ get_or_default agents c.args.number agent no_agent c.requires.number
 
 bare : (c : After-index-as_slice-number) → IsBareAgent c.args.unit.now (agent_at c.args.unit.now c.args.number)
-bare c = c.requires.text.bare.agents c.args.number no_agent c.requires.number
+bare c = c.requires.bare.agents c.args.number no_agent c.requires.number
 
 -- What is found is the longest that the agent lasts.
 found : (c : After-longest) → IsGreatest (MayLast (agent_timing c.args.unit.now c.args.ways.now.nexts c.args.number)) c.longest.result
@@ -47,11 +47,11 @@ returns-clause-some c =
     let unit = c.args.unit.now in
     let ways = c.args.ways.now in
     let number = c.args.number in
-    last_some (agent_timing unit ways.nexts number) (c.one_graph.ensures.timed unit ways number c.requires.text c.requires.ways c.requires.number) (c.distances.ensures.late, c.distances.ensures.near) c.longest.result (found (goal.at.returns-clause-some c).After-longest)
+    last_some (agent_timing unit ways.nexts number) (c.one_graph.ensures.timed unit ways number c.requires.bare c.requires.ways c.requires.number) (c.distances.ensures.late, c.distances.ensures.near) c.longest.result (found (goal.at.returns-clause-some c).After-longest)
 
 pub returns-clause-small : goal.returns-clause-small
 returns-clause-small c =
     let unit = c.args.unit.now in
     let ways = c.args.ways.now in
     let number = c.args.number in
-    last_small (agent_timing unit ways.nexts number) (c.one_graph.ensures.timed unit ways number c.requires.text c.requires.ways c.requires.number) (c.distances.ensures.late, c.distances.ensures.near) c.longest.result (found (goal.at.returns-clause-small c).After-longest)
+    last_small (agent_timing unit ways.nexts number) (c.one_graph.ensures.timed unit ways number c.requires.bare c.requires.ways c.requires.number) (c.distances.ensures.late, c.distances.ensures.near) c.longest.result (found (goal.at.returns-clause-small c).After-longest)

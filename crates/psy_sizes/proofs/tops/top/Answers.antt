@@ -32,7 +32,7 @@ bare_is : (c : After-index-as_slice-stream) → IsBareStream c.args.unit.now c.i
 bare_is c =
     let unit = c.args.unit.now in
     let decl = c.index-as_slice-stream.result in
-    subst (IsBareStream unit) (get_or_from_slice_get unit.streams c.args.stream decl decl (declared_is c)) (c.requires.text.bare.streams c.args.stream decl c.requires.stream)
+    subst (IsBareStream unit) (get_or_from_slice_get unit.streams c.args.stream decl decl (declared_is c)) (c.requires.bare.streams c.args.stream decl c.requires.stream)
 
 pub longest_of_agent-longest-requires-clause-graph : goal.longest_of_agent-longest-requires-clause-graph
 longest_of_agent-longest-requires-clause-graph c =
@@ -54,7 +54,7 @@ returns c =
     let bare : IsBareStream unit decl = bare_is at in
     let nothing : Clock = record { period = 0; first = 0 } in
     let clock = get_or unit.clocks decl.clock no_clock in
-    let lawful : IsClock clock = All-get_or IsClock unit.clocks decl.clock no_clock bare.clock c.requires.text.bare.clocks in
+    let lawful : IsClock clock = All-get_or IsClock unit.clocks decl.clock no_clock bare.clock c.requires.bare.clocks in
     let read : get_or c.as_slice-2.result.now decl.clock nothing ≡ clock = ap (λ xs. get_or xs decl.clock nothing) c.as_slice-2.ensures ∙ get_or_default unit.clocks decl.clock nothing no_clock bare.clock in
     let lasting : lasting_of unit stream ≡ decl.keep * clock.period = ap (λ (s : StreamDecl). s.keep * period_of unit s.clock) is in
     let found : decl.keep * (get_or c.as_slice-2.result.now decl.clock nothing).period ≡ decl.keep * clock.period = ap (λ (k : Clock). decl.keep * k.period) read in

@@ -43,7 +43,7 @@ most_of_nodes-requires-clause-head c =
     let unit = c.args.unit.now in
     let ways = c.args.ways.now in
     let number = c.args.number in
-    let timed = c.one_graph.ensures.timed unit ways number c.requires.text c.requires.ways c.requires.number in
+    let timed = c.one_graph.ensures.timed unit ways number c.requires.bare c.requires.ways c.requires.number in
     omega (arith, timed.head, looks_points unit ways c.requires.ways number c.requires.number)
 
 pub most_of_nodes-requires-clause-points : goal.most_of_nodes-requires-clause-points
@@ -51,7 +51,7 @@ most_of_nodes-requires-clause-points c =
     let unit = c.args.unit.now in
     let ways = c.args.ways.now in
     let number = c.args.number in
-    let timed = c.one_graph.ensures.timed unit ways number c.requires.text c.requires.ways c.requires.number in
+    let timed = c.one_graph.ensures.timed unit ways number c.requires.bare c.requires.ways c.requires.number in
     let within : All (λ node. node.point < length (get_or ways.looks number [])) c.args.graph.now.nodes = subst (λ n. All (λ node. node.point < n) c.args.graph.now.nodes) (sym (looks_points unit ways c.requires.ways number c.requires.number))
     (nodes_within (agent_timing unit ways.nexts number) c.args.graph.now c.requires.graph.0 timed) in
     subst (All (λ node. node.point < length (get_or ways.looks number []))) (sym c.as_slice-4.ensures) within

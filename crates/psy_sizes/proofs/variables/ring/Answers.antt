@@ -21,7 +21,7 @@ size_is c =
     slice_get_read c.as_slice.result.now (length c.as_slice.result.now) variable decl refl (omega (arith, c.requires.variable, ap length c.as_slice.ensures)) c.index-as_slice-variable.is in
     let declared : slice_get unit.variables variable ≡ Some decl = subst (λ xs. slice_get xs variable ≡ Some decl) c.as_slice.ensures here in
     let bare : IsBareVariable unit decl =
-    subst (IsBareVariable unit) (get_or_from_slice_get unit.variables variable decl decl declared) (c.requires.text.bare.variables variable decl c.requires.variable) in
+    subst (IsBareVariable unit) (get_or_from_slice_get unit.variables variable decl decl declared) (c.requires.bare.variables variable decl c.requires.variable) in
     let nothing : Clock = record { period = 0; first = 0 } in
     let clock = get_or c.as_slice-2.result.now decl.clock nothing in
     let clock_is : clock ≡ get_or unit.clocks decl.clock no_clock = ap (λ xs. get_or xs decl.clock nothing) c.as_slice-2.ensures ∙ get_or_default unit.clocks decl.clock nothing no_clock bare.clock in

@@ -21,7 +21,7 @@ use Rattle.psy_kernel.specs.declared.engine.Server.{Server}
 use Rattle.psy_kernel.specs.Standing.{AreInForce, IsChosen, EngineStands, state_of}
 use Rattle.psy_kernel.specs.Stretches.{Lasts, MayLast}
 use Rattle.psy_kernel.proofs.Counted.{counted, counted_ready, dropped, dropped_ready, none_there, others_wait, state_put}
-use Rattle.psy_kernel.proofs.CyclesGiven.{Takes, deadline, deadline_is, idle_stands, idle_steady, known, lasted_over, lasted_stands, lasted_steady, may_last, on_date, takes}
+use Rattle.psy_kernel.proofs.CyclesGiven.{Takes, deadline, deadline_is, idle_on, idle_stands, idle_steady, known, lasted_on, lasted_over, lasted_stands, lasted_steady, may_last, on_date, takes}
 use Rattle.psy_kernel.proofs.Engines.{AreCycleLaws, ArePut, HaveGone, IsDue, ahead_of, cycles_is, cycles_of, high_of, is_due, lists_read, opening_in, order_in, order_read, put_more, put_none, run_in, turns_in}
 use Rattle.psy_kernel.proofs.MoversGiven.{IsTold}
 use Rattle.psy_kernel.proofs.RingViews.{few_places}
@@ -91,8 +91,14 @@ module _ (k : Inside) (processor : ℕ) (server : Server) (at : slice_get k.serv
         → (between : ℕ) → done_on e processor < between → between < cycles_of servers processor → IsOverOn e processor between → ⊥
     steady_then steady between above below over = steady between (omega (arith, above, was_done)) (omega (arith, below, is_done)) (subst (λ (q : EngineState). IsOverOn q processor between) (sym view) over)
 
-    over_then : (n < most → IsOverOn (state_of k) processor (server.cycles + n)) → cycles_of servers processor < done_on e processor + most → IsOverOn e processor (cycles_of servers processor)
-    over_then over less = subst (λ (q : EngineState). IsOverOn q processor (cycles_of servers processor)) view (subst (IsOverOn (state_of k) processor) (sym is_done) (over (omega (arith, less, was_done, is_done))))
+    over_then : IsOverOn (state_of k) processor (server.cycles + n) → IsOverOn e processor (cycles_of servers processor)
+    over_then over = subst (λ (q : EngineState). IsOverOn q processor (cycles_of servers processor)) view (subst (IsOverOn (state_of k) processor) (sym is_done) over)
+
+    goes_then : (IsOverOn (state_of k) processor (server.cycles + n) → ⊥) → IsOverOn e processor (cycles_of servers processor) → ⊥
+    goes_then goes over = goes (subst (IsOverOn (state_of k) processor) is_done (subst (λ (q : EngineState). IsOverOn q processor (cycles_of servers processor)) (sym view) over))
+
+    whole_then : n ≡ most → cycles_of servers processor ≡ done_on e processor + most
+    whole_then all = omega (arith, was_done, is_done, all)
 
 -- ---- the last action of the chosen agent, and what it has and sees
 
@@ -351,7 +357,9 @@ returns-in-None c =
       state = state_put k p _ y (put_more k p _ y i.put) i.gone.there e c.self.view_is;
       count = count_then k p server a.at e c.self.view_is y most most _ i.gone c.requires.some (omega arith);
       steady = steady_then k p server a.at e c.self.view_is y most most _ i.gone (idle_steady k c.self.invariant p server a.due i.nobody most a.high a.ahead);
-      over = over_then k p server a.at e c.self.view_is y most most _ i.gone (λ wrong. absurd (omega (arith, wrong)));
+      over = λ wrong. absurd (cc);
+      goes = λ is. goes_then k p server a.at e c.self.view_is y most most _ i.gone (idle_on k c.self.invariant p server a.due i.nobody most a.high a.ahead c.requires.some);
+      whole = λ is. whole_then k p server a.at e c.self.view_is y most most _ i.gone refl;
     }
 
 -- ---- where an agent is chosen
@@ -545,7 +553,9 @@ returns-then-not-lasted c =
       state = state_put k p _ next (put_more k p _ next drops.put) drops.gone.there e c.self.view_is;
       count = count_then k p server a.at e c.self.view_is next n most _ drops.gone lasted.count.0 lasted.count.1;
       steady = steady_then k p server a.at e c.self.view_is next n most _ drops.gone (lasted_steady k is p server a.due c.in-Some.agent pick l.r l.before l.t most a.high a.ahead date date_is n lasted.count c.go_on-lasted.new.outbox l.lasts);
-      over = over_then k p server a.at e c.self.view_is next n most _ drops.gone (λ less. lasted_over k is p server a.due c.in-Some.agent pick l.r l.before l.t most a.high a.ahead date date_is n lasted.count c.go_on-lasted.new.outbox l.lasts (is_off c.go_on-lasted.result.goes c.if-not-lasted.true));
+      over = λ is_over. over_then k p server a.at e c.self.view_is next n most _ drops.gone (lasted_over k is p server a.due c.in-Some.agent pick l.r l.before l.t most a.high a.ahead date date_is n lasted.count c.go_on-lasted.new.outbox l.lasts (is_off c.go_on-lasted.result.goes c.if-not-lasted.true));
+      goes = λ wrong. absurd (cc);
+      whole = λ wrong. absurd (cc);
     }
 
 pub returns-else-not-lasted : goal.returns-else-not-lasted
@@ -572,5 +582,7 @@ returns-else-not-lasted c =
       state = state_put k p _ next (put_more k p _ next counts.put) counts.gone.there e c.self.view_is;
       count = count_then k p server a.at e c.self.view_is next n most _ counts.gone lasted.count.0 lasted.count.1;
       steady = steady_then k p server a.at e c.self.view_is next n most _ counts.gone (lasted_steady k is p server a.due c.in-Some.agent pick l.r l.before l.t most a.high a.ahead date date_is n lasted.count c.go_on-lasted.new.outbox l.lasts);
-      over = over_then k p server a.at e c.self.view_is next n most _ counts.gone (λ less. absurd (omega (arith, less, lasted.whole (is_on c.go_on-lasted.result.goes c.if-not-lasted.false))));
+      over = λ wrong. absurd (cc);
+      goes = λ it. goes_then k p server a.at e c.self.view_is next n most _ counts.gone (lasted_on k is p server a.due c.in-Some.agent pick l.r l.before l.t most a.high a.ahead date date_is n lasted.count c.go_on-lasted.new.outbox l.lasts (is_on c.go_on-lasted.result.goes c.if-not-lasted.false));
+      whole = λ it. whole_then k p server a.at e c.self.view_is next n most _ counts.gone (lasted.whole (is_on c.go_on-lasted.result.goes c.if-not-lasted.false));
     }

@@ -1,14 +1,13 @@
 -- What is left of the proof of `ready::Ready::drop_agent`.
-use Rattle.std.proofs.Common.{◌≡◌, ℕ, ◌<◌, ◌==◌, cond, Bool, true, false, List, length, set, get_or, Option, Some, None, sym, ap, ◌∙◌, subst, inl, inr, arith}
+use Rattle.std.proofs.Common.{◌≡◌, ℕ, ◌<◌, ◌==◌, Bool, true, false, List, length, set, get_or, Option, Some, None, sym, ap, ◌∙◌, subst, arith}
 use Rattle.std.specs.Prelude.{◌≢◌}
-use Rattle.std.specs.List.{Contains, position, position_or_len}
-use Rattle.std.proofs.lemmas.Bool.{cases_lt, lt-ltb}
+use Rattle.std.specs.List.{Contains, position}
 use Rattle.std.proofs.lemmas.Bool.Decides.{nat_tests}
 use Rattle.std.proofs.lemmas.List.Quantifiers.{position-Some}
-use Rattle.std.proofs.lemmas.List.Sums.{fails_before_first}
 use Rattle.psy_ready.specs.declared.ready.Pending.{Pending}
 use Rattle.psy_ready.specs.Choice.{pending_deadline}
 use Rattle.psy_ready.specs.Standing.{AreSorted}
+use Rattle.psy_ready.proofs.Places.{none_passes}
 use Rattle.psy_ready.proofs.Sorts.{one_dropped, more_rest, inside_where}
 use Rattle.psy_ready.proofs.ready.Ready.drop_agent.Goals as goal
 
@@ -23,10 +22,7 @@ other_agent p agent e = grind (arith, nat_tests)
 
 -- Where an agent has no place it isn't listed
 no_place : (sorted : List Pending) (agent : ℕ) → position (is_of agent) sorted ≡ None → (k : ℕ) (d : Pending) → k < length sorted → (get_or sorted k d).agent ≢ agent
-no_place sorted agent none k d less = elim (cases_lt (position_or_len (is_of agent) sorted) (length sorted)) [
-  | inl found ↦ absurd (let wrong : None ≡ Some (position_or_len (is_of agent) sorted) = sym none ∙ ap (λ (b : Bool). cond b (Some (position_or_len (is_of agent) sorted)) None) (lt-ltb (position_or_len (is_of agent) sorted) (length sorted) found) in cc)
-  | inr past ↦ other_agent (get_or sorted k d) agent (fails_before_first (is_of agent) sorted k d (omega (arith, less, past)))
-]
+no_place sorted agent none k d less = other_agent (get_or sorted k d) agent (none_passes (is_of agent) sorted none k d less)
 
 due_in : (now deadlines : List (Option ℕ)) (agent : ℕ) → now ≡ deadlines → (deadline : ℕ) × (pending_deadline now agent ≡ Some deadline) → (deadline : ℕ) × (pending_deadline deadlines agent ≡ Some deadline)
 due_in now deadlines agent same due = (due.0, ap (λ ds. pending_deadline ds agent) (sym same) ∙ due.1)
