@@ -28,15 +28,13 @@ use Rattle.psy_notes.specs.Stands.{graph_begins, run_begins}
 use Rattle.psy_notes.specs.Texts.{BreaksAt, IsText}
 use Rattle.psy_notes.specs.declared.stand.Stand.{Stand}
 use Rattle.psy_log.specs.declared.note.Note.{Note}
-use Rattle.psy_tree.specs.declared.raw.Raw.{Raw}
-use Rattle.psy_tree.specs.declared.token.Token.{Token}
 use Rattle.psy_tree.specs.declared.unit.Unit.{Unit as Whole}
-use Rattle.psy_tree.specs.Grammar.{Spells}
-use Rattle.psy_tree.specs.Stands.{Stands}
-use Rattle.psy_tree.specs.Tokens.{TokensOf}
 use Rattle.psy_window.specs.Windows.{IsEdge}
 use Rattle.psy_history.specs.declared.told.Script.{Script}
-use Rattle.psy_run.specs.Answer.{Supply, answering, checking, compiling, drawing, listing, running, serving, supplying, translating, trying}
+use Rattle.psy_plan.specs.Programs.{IsProgram}
+use Rattle.psy_plan.specs.Supplies.{IsSupply, Supply}
+use Rattle.psy_plan.specs.Supplies as plan
+use Rattle.psy_run.specs.Answer.{answering, checking, compiling, drawing, listing, running, serving, supplying, translating, trying}
 use Rattle.psy_run.specs.Bounds.{IsBounded, KeepsBounds}
 use Rattle.psy_run.specs.Courses.{in_row}
 use Rattle.psy_run.specs.Services.{Service, Ran, Drawn, meaning_of, no_inputs, no_script, text_of}
@@ -52,7 +50,8 @@ use Rattle.psy_agree.proofs.RunNotes.{IsTellableRun, run_is_read, summary_is_rea
 
 -- What the laws of the crates below say
 pub record AreLaws : Type 0 where
-  pub of_text : (bytes : List ℕ) (tokens : List Token) (raw : Raw) (unit : Whole) → length bytes ≤ FILE_BYTES → TokensOf bytes tokens → Spells raw tokens → Stands unit raw → IsOfText unit
+  pub of_text : (bytes : List ℕ) (unit : Whole) → length bytes ≤ FILE_BYTES → IsProgram bytes unit → IsOfText unit
+  pub supplies : (unit : Whole) (until : ℕ) (supply : Supply) → IsOfText unit → (plan.supplying unit until).gives supply → IsSupply unit until supply
   pub short : (seed : ℕ) → length (made_text seed) ≤ FILE_BYTES
   pub edges : (unit : Whole) (graphs : List Graph) → IsOfText unit → AreGraphs unit graphs → All (λ (graph : Graph). All (IsEdge (length graph.nodes)) graph.edges) graphs
   pub near : (unit : Whole) (graphs : List Graph) → IsOfText unit → AreGraphs unit graphs → All IsNear graphs
@@ -68,16 +67,14 @@ module _ (laws : AreLaws) where
   -- ---- the program
 
   translated_of : (bytes : List ℕ) (unit : Whole) → length bytes ≤ FILE_BYTES → (translating bytes).gives unit → IsOfText unit
-  unfolding in_row
-  translated_of bytes unit few (tokens, lexed, (raw, parsed, stands)) = laws.of_text bytes tokens raw unit few lexed parsed.1 stands
+  translated_of bytes unit few made = laws.of_text bytes unit few made
 
   compiled_of : (files : Option Files) (name : List ℕ) (unit : Whole) → (compiling files name).gives unit → IsOfText unit
   unfolding in_row
   compiled_of files name unit (bytes, few, translated) = translated_of bytes unit few.0 translated
 
-  sized_of : (unit : Whole) (until : ℕ) (supply : Supply) → (supplying unit until).gives supply → AreSizes unit (OfText unit) supply.nexts supply.sizes
-  unfolding in_row
-  sized_of unit until supply (graphs, drawn, (nexts, followed, (sizes, sized, (lines, rated, (extent, looked, (few, held, (done, feasible, same))))))) = subst (λ (s : Supply). AreSizes unit (OfText unit) s.nexts s.sizes) (sym same) sized.0
+  sized_of : (unit : Whole) (until : ℕ) (supply : Supply) → IsOfText unit → (supplying unit until).gives supply → AreSizes unit (OfText unit) supply.nexts supply.sizes
+  sized_of unit until supply text supplied = (laws.supplies unit until supply text supplied).sized
 
   -- ---- what is written
 
@@ -135,7 +132,8 @@ module _ (laws : AreLaws) where
   running_read : (files : Option Files) (name : List ℕ) (until : ℕ) (inputs script : Option (List ℕ)) (done : Service) → until ≤ UNTIL → (running files name until inputs script).gives done → Reads done
   unfolding in_row
   running_read files name until inputs script done most (unit, compiled, (supply, supplied, (lists, listed, (said, scripted, (paces, paced, same))))) =
-      subst Reads (sym same) (run_read unit (compiled_of files name unit compiled) until supply.nexts supply.sizes (sized_of unit until supply supplied) lists said (inputs_of files unit inputs lists listed) most paced)
+      let text = compiled_of files name unit compiled in
+      subst Reads (sym same) (run_read unit text until supply.nexts supply.sizes (sized_of unit until supply text supplied) lists said (inputs_of files unit inputs lists listed) most paced)
 
   checking_read : (files : Option Files) (name : List ℕ) (until : ℕ) (done : Service) → (checking files name until).gives done → Reads done
   unfolding in_row
@@ -148,7 +146,8 @@ module _ (laws : AreLaws) where
   trying_read : (seed until : ℕ) (done : Service) → until ≤ UNTIL → (trying seed until).gives done → Reads done
   unfolding in_row
   trying_read seed until done most (unit, translated, (supply, supplied, (paces, paced, same))) =
-      subst Reads (sym same) (summary_read unit (translated_of (made_text seed) unit (laws.short seed) translated) until supply.nexts supply.sizes (sized_of unit until supply supplied) (no_inputs unit) no_script (are_no_inputs unit) most paced)
+      let text = translated_of (made_text seed) unit (laws.short seed) translated in
+      subst Reads (sym same) (summary_read unit text until supply.nexts supply.sizes (sized_of unit until supply text supplied) (no_inputs unit) no_script (are_no_inputs unit) most paced)
 
   serving_read : (words : List (List ℕ)) (files : Option Files) (command : Command) (done : Service) → Asks words command → (serving files command).gives done → Reads done
   serving_read words files _ done (asks_run program date until is asked) gives = running_read files program until None None done asked.most gives

@@ -9,8 +9,8 @@ ghost use Rattle.psy_agree.specs.Readable.{IsReadBack};
 use psy_graph::laws::one_graph;
 use psy_history::laws::values;
 use psy_make::laws::short;
-use psy_meaning::laws::of_text;
 use psy_notes::laws::one_reading;
+use psy_plan::laws::{programs, supplies};
 use psy_run::laws::bounded;
 use psy_script::laws::lawful;
 
@@ -18,7 +18,8 @@ use psy_script::laws::lawful;
 pub fn read_back()
     ensures { (words : List (List ℕ)) (files : Option Files) (done : Service) → (answering words files).gives done → IsReadBack done }
 {
-    of_text();
+    programs();
+    supplies();
     short();
     one_graph();
     values();

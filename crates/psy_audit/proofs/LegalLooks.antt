@@ -37,11 +37,11 @@ module _ (j : Judged) (lines : Lines) (l : Look) (a : Act) (listed : Contains (a
       let near = nat_lt l.back (variable_at j.unit l.variable).depth in
       let placed = l.slot == slot_of size dates l.back in
       let young = nat_lt (age_in j a.start l) size in
-      let one = and_parts (a.number == l.number) (within && (near && (placed && (finds j lines dates l && young)))) is in
-      let two = and_parts within (near && (placed && (finds j lines dates l && young))) one.1 in
-      let three = and_parts near (placed && (finds j lines dates l && young)) two.1 in
-      let four = and_parts placed (finds j lines dates l && young) three.1 in
-      let five = and_parts (finds j lines dates l) young four.1 in
+      let one = and_parts (a.number == l.number) (within && (near && (placed && (finds j (publications_of l.variable lines) dates l && young)))) is in
+      let two = and_parts within (near && (placed && (finds j (publications_of l.variable lines) dates l && young))) one.1 in
+      let three = and_parts near (placed && (finds j (publications_of l.variable lines) dates l && young)) two.1 in
+      let four = and_parts placed (finds j (publications_of l.variable lines) dates l && young) three.1 in
+      let five = and_parts (finds j (publications_of l.variable lines) dates l) young four.1 in
       let (segment, there, has) = some (has_cycle l.cycle) its two.0 in
       let ends = and_parts (nat_le segment.first l.cycle) (nat_lt l.cycle segment.past) has in
       let found = slice_get (publications_of l.variable lines) (dates - 1 - l.back) in

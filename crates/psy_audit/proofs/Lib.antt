@@ -1,6 +1,19 @@
 -- The lemmas of this crate, by subject.
+mod Befores
+mod Counts
+mod Edges
+mod Faulty
+mod Firsts
+mod Judged
 mod LegalLooks
 mod LegalTurns
+mod Lengths
+mod Orders
+mod Places
+mod Plans
+mod Sooner
 mod Sound
 mod Soonest
 mod Tests
+mod Turning
+mod Walks

@@ -36,15 +36,18 @@ is_continued timing until its a (At end) = list_any (λ to. end_date timing a.st
     && (nat_le until end || list_any (goes_on timing a) its)
 is_continued timing until its a ending = true
 
--- The action is one that the agent may do behind the lines before: it comes next, starts before the last date, is due at its deadline, and
--- is continued.
-abbrev pub has_course : Judged → Lines → Lines → Act → Bool
-has_course j all before a =
-    let timing = timing_in j a.agent in
-    comes_next timing (last_of (acts_of a.agent before)) a
-    && (nat_lt a.start j.until
+-- The action is one that an agent may do behind its last one, where these are its actions: it comes next, starts before the last date, is due at
+-- its deadline, and is continued.
+abbrev pub is_course : Timing → ℕ → Option Act → List Act → Act → Bool
+is_course timing until last its a =
+    comes_next timing last a
+    && (nat_lt a.start until
     && (a.due == deadline timing a.point a.start
-    && is_continued timing j.until (acts_of a.agent all) a a.ending))
+    && is_continued timing until its a a.ending))
+
+-- The action is one that its agent may do behind the lines before.
+abbrev pub has_course : Judged → Lines → Lines → Act → Bool
+has_course j all before a = is_course (timing_in j a.agent) j.until (last_of (acts_of a.agent before)) (acts_of a.agent all) a
 
 -- An agent with a first date before the last date has an action.
 abbrev pub has_begun : Judged → Lines → ℕ → Bool
@@ -73,11 +76,14 @@ abbrev pub is_unfinished : Ending → Bool
 is_unfinished Unfinished = true
 is_unfinished ending = false
 
--- An action has the cycles that it tells of, no more than its budget, between its start and its deadline, and is finished where it was due.
-abbrev pub has_cycles : Judged → Lines → Act → Bool
-has_cycles j all a =
-    let its = segments_of a.agent a.number all in
+-- An action has the cycles that it tells of in these stretches, no more than its budget, between its start and its deadline, and is finished where it was due.
+abbrev pub are_cycles : Judged → List Segment → Act → Bool
+are_cycles j its a =
     nat_le a.work (budget_at (timing_in j a.agent) a.point)
     && (a.work == cycles_in its
     && (list_all (is_within j a) its
     && not (is_unfinished a.ending && nat_le a.due j.until)))
+
+-- It has them in the stretches that are its own.
+abbrev pub has_cycles : Judged → Lines → Act → Bool
+has_cycles j all a = are_cycles j (segments_of a.agent a.number all) a

@@ -34,7 +34,7 @@ impl Drive {
     /// Does a step of the cycles that are due, and no date.
     pub fn step(self, kernel: &mut Kernel)
         requires { stage_of kernel.old ≡ Stage.CycleDue kernel.old.cycles }
-        ensures { kernel.new ≡ record kernel.old { cycles = kernel.new.cycles; units = kernel.new.units } }
+        ensures { kernel.new ≡ record kernel.old { cycles = kernel.new.cycles; units = kernel.new.units; last = kernel.new.last } }
     {
         match self {
             Drive::Tick => kernel.tick(),

@@ -1,9 +1,10 @@
 //! Runs programs on several processors in each way in which a kernel may be brought from date to date: by ticks, slices, cycles and units.
-//! Says of each text how long it is, and whether it is the one that the loop of psyc writes.
+//! Says of each text how long it is, and whether it is the one that the loop of psyc writes; and tells the last of the runs unit by unit.
 #![tactic(auto)]
 
 mod drive;
 mod runs;
+mod units;
 
 use drive::DRIVES;
 use psy_door::{FileShelf, Shelf, Sink, StdSink};
@@ -13,6 +14,7 @@ use std::alloc::Global;
 use std::env;
 use std::process::ExitCode;
 use std::rt::Env;
+use units::tell_units;
 
 /// How many words ask for a run with inputs and a script.
 const WORDS: usize = 5;
@@ -59,7 +61,7 @@ fn compare<F: Shelf, S: Sink>(
     Some(())
 }
 
-// Does so for each of the runs that the words ask for.
+// Does so for each of the runs that the words ask for, and tells the last of them unit by unit.
 fn compare_all<F: Shelf, S: Sink>(
     alloc: Global,
     words: &[String],
@@ -69,7 +71,7 @@ fn compare_all<F: Shelf, S: Sink>(
     for asked in words.chunks(WORDS) {
         compare(alloc, asked, shelf, out)?;
     }
-    Some(())
+    tell_units(alloc, words.chunks(WORDS).last()?, shelf, out)
 }
 
 fn main(rt: HostRuntime) -> ExitCode {

@@ -5,11 +5,16 @@ pub mod Bits
 pub mod CodeLists
 pub mod Costs
 pub mod Counted
+pub mod Heights
 pub mod Listed
+pub mod Marks
+pub mod Needs
+pub mod Owners
 pub mod Quests
 pub mod Reach
 pub mod Readings
 pub mod Texts
 pub mod Tops
+pub mod Verified
 pub mod Walks
 pub mod Worths

@@ -18,8 +18,10 @@ ghost use Rattle.psy_meaning.specs.RingSizes.{IsRingSize};
 ghost use Rattle.psy_meaning.specs.Units.{IsOfText};
 ghost use Rattle.psy_meaning.specs.Ways.{Meter, callee_ways};
 ghost use Rattle.psy_flow.specs.Agents.{IsAgentOf, IsKnown};
+ghost use Rattle.psy_flow.specs.Marks.{AreMarks, Marks};
 ghost use Rattle.psy_flow.specs.Readings.{AreAlike};
 ghost use Rattle.psy_flow.specs.Texts.{looks_in, streams_in};
+ghost use Rattle.psy_flow.specs.Verified.{IsVerified};
 
 use psy_meaning::laws::{follows, met, named as can_name, sendings, sound};
 
@@ -136,4 +138,9 @@ pub fn one_list()
     ensures nexts { (unit : Whole) (nexts others : List (List (List ℕ))) → AreAllNexts unit nexts → AreAllNexts unit others → nexts ≡ others }
     ensures text { (unit : Whole) (ways others : Ways) → AreWaysOf unit ways → AreWaysOf unit others → ways ≡ others }
     ensures code { (unit : Whole) (code : Code) (ways others : Ways) → AreCodeWays unit code ways → AreCodeWays unit code others → ways ≡ others }
+{}
+
+/// Code that has marks is verified.
+pub fn marked()
+    ensures { (unit : Whole) (code : Code) (marks : Marks) → AreMarks unit code marks → IsVerified unit code }
 {}

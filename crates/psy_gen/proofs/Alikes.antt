@@ -42,7 +42,7 @@ Ends = (unit : Whole) (number : ℕ) (agent : AgentDecl) (point : ℕ) (s : Stat
 
 -- ---- where the code stands
 
-whole_has : (before is : List Instr) → HasAt (before ++ is) (length before) is
+pub whole_has : (before is : List Instr) → HasAt (before ++ is) (length before) is
 whole_has before [] = tt {0}
 whole_has before (i ∷ is) =
     (here before i is, subst (λ n. HasAt (before ++ i ∷ is) n is) (length-append before (i ∷ [])) (subst (λ l. HasAt l (length (before ++ i ∷ [])) is) (append_assoc before (i ∷ []) is) (whole_has (before ++ i ∷ []) is)))

@@ -16,7 +16,7 @@ use Rattle.psy_tree.specs.declared.unit.Stmt.TheOpen.{Stmt-F}
 use Rattle.psy_tree.specs.Paths.{total}
 use Rattle.psy_meaning.specs.Sizes.{binary_size, expr_size, expr_size_step, stmt_size, stmt_size_step, stmts_size}
 use Rattle.psy_meaning.specs.Depths.{loops, loops_in, loops_step}
-use Rattle.psy_gen.specs.Emission.{Layout, Emit, Operand, Coded, Part, Places, Placed, base_of, cells_in_slot, expr_code, expr_code_step, binary_code, arguments_code, stmt_code, stmt_code_step, stmts_code, block_size, block_loops, places_of, places_step, stmts_places, placed_size}
+use Rattle.psy_gen.specs.Emission.{Layout, Emit, Operand, Coded, Part, Places, Placed, base_of, cells_in_slot, width_of_unary, expr_code, expr_code_step, binary_code, arguments_code, stmt_code, stmt_code_step, stmts_code, block_size, block_loops, places_of, places_step, stmts_places, placed_size}
 
 -- ---- expressions
 
@@ -51,7 +51,7 @@ code_ready layout stream p = code_rolled layout (expr.Ready stream) (Expr-F.Read
 pub code_take : (layout : Layout) (stream p : ℕ) → expr_code layout (expr.Take stream) p ≡ instr.Take stream ∷ []
 code_take layout stream p = code_rolled layout (expr.Take stream) (Expr-F.Take stream) p (expr.rolls-Take stream)
 
-pub code_unary : (layout : Layout) (o : Op1) (w : Width) (e : Expr) (p : ℕ) → expr_code layout (expr.Unary o w e) p ≡ expr_code layout e p ++ instr.Unary o w ∷ []
+pub code_unary : (layout : Layout) (o : Op1) (w : Width) (e : Expr) (p : ℕ) → expr_code layout (expr.Unary o w e) p ≡ expr_code layout e p ++ instr.Unary o (width_of_unary o w) ∷ []
 code_unary layout o w e p = code_rolled layout (expr.Unary o w e) (Expr-F.Unary o w e) p (expr.rolls-Unary o w e)
 
 pub code_cast : (layout : Layout) (w : Width) (e : Expr) (p : ℕ) → expr_code layout (expr.Cast w e) p ≡ expr_code layout e p ++ instr.Cast w ∷ []

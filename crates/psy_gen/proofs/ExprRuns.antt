@@ -4,6 +4,7 @@ use Rattle.std.specs.Prelude.{ℕ, ◌+◌, ◌<◌, ◌≤◌, max, nat_lt, Boo
 use Rattle.std.proofs.lemmas.List.{length-append}
 use Rattle.std.specs.Int.{int_wrap}
 use Rattle.psy_arith.specs.declared.operators.Op1.{Op1}
+use Rattle.psy_arith.specs.declared.operators.Op1.TheVariants as one
 use Rattle.psy_arith.specs.declared.operators.Op2.{Op2}
 use Rattle.psy_arith.specs.declared.operators.Op2.TheVariants as op
 use Rattle.psy_arith.specs.declared.operators.Trap.TheVariants as trap
@@ -28,13 +29,19 @@ use Rattle.psy_meaning.specs.Sound.{Scope, HasSlot, HasCopy, HasPast, HasStream,
 use Rattle.psy_meaning.specs.States.{Store, State, Got, Value, Eval, Callee, and_then, cost_1, asking, or_stop, value_at, copy_at, value_or_zero}
 use Rattle.psy_meaning.specs.Expressions.{eval, expr_step, element, messages_at, take_from, applied, truth_of, in_order}
 use Rattle.psy_meaning.proofs.lemmas.SoundParts.{exprs_natural}
-use Rattle.psy_gen.specs.Emission.{Emit, Operand, base_of, cells_in_slot, arguments_code, expr_code_step, expr_code}
+use Rattle.psy_gen.specs.Emission.{Emit, Operand, base_of, cells_in_slot, arguments_code, width_of_unary, expr_code_step, expr_code}
 use Rattle.psy_gen.proofs.Contexts.{Context, Home, Room, joined, machine_in, at, frame_size, present_in, copies_in, HasAt, has-first, has-second, Shape, GotAfter, got_leads, got_bind, got_before}
 use Rattle.psy_gen.proofs.Lookups.{cell_is, cells_are, copy_is, past_is, messages_are, taken_there, got_is, index_small}
 use Rattle.psy_gen.proofs.Steps.{step, traps}
 
 pub len-one : (c : List Instr) (i : Instr) (n : ℕ) → length c ≡ n → length (c ++ i ∷ []) ≡ n + 1
 len-one c i n e = length-append c (i ∷ []) ∙ ap (λ x. x + 1) e
+
+-- An operator gives the same at the width at which code has it.
+taken_at : (operator : Op1) (width : Width) (a : ℤ) → taken1 (of_type (width_of_unary operator width)) operator a ≡ taken1 (of_type width) operator a
+taken_at one.Not width a = refl
+taken_at one.Neg width a = refl
+taken_at one.Flip width a = refl
 
 -- The operands once these values were pushed
 abbrev pub pushed : List ℤ → List ℤ → List ℤ
@@ -153,13 +160,13 @@ module _ (whole : Code) (its : AgentCode) (sc : Scope) (k : Context) (callees : 
       (λ v t same sh. next v (p + n) operands counters s t (behind c n p (i ∷ []) sized h).0 same sh r))
 
   unary_runs : (operator : Op1) (width : Width) (c : Emit) (n : ℕ) (d : Depth) (ev : Eval) → Goes c n d ev
-      → Runs (λ p. c p ++ instr.Unary operator width ∷ []) (n + 1) d (λ s. and_then (ev s) (λ a t. Value (taken1 (of_type width) operator a) (cost_1 t)))
+      → Runs (λ p. c p ++ instr.Unary operator (width_of_unary operator width) ∷ []) (n + 1) d (λ s. and_then (ev s) (λ a t. Value (taken1 (of_type width) operator a) (cost_1 t)))
   unary_runs operator width c n d ev goes =
-      let i = instr.Unary operator width in
+      let i = instr.Unary operator (width_of_unary operator width) in
       operand_runs c n d ev i (λ a t. Value (taken1 (of_type width) operator a) (cost_1 t)) goes
       (λ a q operands counters before t here same sh r.
-      value_step i (taken1 (of_type width) operator a) before t (cost_1 t) q operands (a ∷ operands) counters (length operands + 1) here refl refl same
-      (ticked t sh) r (omega arith))
+      value_step i (taken1 (of_type width) operator a) before t (cost_1 t) q operands (a ∷ operands) counters (length operands + 1) here
+      (rw (taken_at operator width a) refl) refl same (ticked t sh) r (omega arith))
 
   cast_runs : (width : Width) (c : Emit) (n : ℕ) (d : Depth) (ev : Eval) → Goes c n d ev
       → Runs (λ p. c p ++ instr.Cast width ∷ []) (n + 1) d (λ s. and_then (ev s) (λ a t. Value (int_wrap (of_type width) a) (cost_1 t)))
@@ -427,7 +434,7 @@ module _ (whole : Code) (its : AgentCode) (sc : Scope) (k : Context) (callees : 
     layer_runs (Expr-F.Ready stream) = (λ p. refl, omega arith, λ sound. ready_runs stream sound)
     layer_runs (Expr-F.Take stream) = (λ p. refl, omega arith, λ sound. take_runs stream sound)
     layer_runs (Expr-F.Unary operator width operand) = (
-      λ p. len-one (expr_code sc.layout operand.0 p) (instr.Unary operator width) (expr_size operand.0) (operand.1.0 p),
+      λ p. len-one (expr_code sc.layout operand.0 p) (instr.Unary operator (width_of_unary operator width)) (expr_size operand.0) (operand.1.0 p),
       operand.1.1,
       λ sound. unary_runs operator width (expr_code sc.layout operand.0) (expr_size operand.0) (expr_depth depths operand.0) (eval callees operand.0) (goes_of operand sound),
     )

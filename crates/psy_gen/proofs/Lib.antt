@@ -19,5 +19,6 @@ mod Spans
 mod Steps
 mod StmtRuns
 mod Small
+mod verified
 mod Wholes
 mod ways

@@ -55,7 +55,7 @@ layer y p =
     let x : Stmt-F Stmt = map-Stmt Known Stmt tree y in
     ap (λ (f : Places). length (f p)) (para-roll-Stmt Places places_step x) ∙ step_count y p ∙ ap length (sym (fold-roll-Stmt (List ℕ) advances_step x))
 
-count : (stmt : Stmt) → Q stmt
+pub count : (stmt : Stmt) → Q stmt
 count = ind-Stmt Q (λ x y is. subst (λ z. Q (roll-Stmt z)) is (layer y))
 
 abbrev known_of : Stmt → Known

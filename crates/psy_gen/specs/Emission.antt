@@ -2,9 +2,12 @@
 -- the construct's size.
 use Rattle.std.specs.Prelude.{ℕ, ◌+◌, List, [], ◌∷◌, ◌++◌, map, length, take, replicate, Option, Some, None, slice_index_or, pos}
 use Rattle.std.specs.List.{flat_map}
+use Rattle.psy_arith.specs.declared.operators.Op1.{Op1}
+use Rattle.psy_arith.specs.declared.operators.Op1.TheVariants as one
 use Rattle.psy_arith.specs.declared.operators.Op2.{Op2}
 use Rattle.psy_arith.specs.declared.operators.Op2.TheVariants as op
 use Rattle.psy_arith.specs.declared.width.Width.{Width}
+use Rattle.psy_arith.specs.declared.width.Width.TheVariants as widths
 use Rattle.psy_tree.specs.declared.unit.Unit.{Unit as Whole}
 use Rattle.psy_tree.specs.declared.unit.AgentDecl.{AgentDecl}
 use Rattle.psy_tree.specs.declared.unit.FunctionDecl.{FunctionDecl}
@@ -63,6 +66,15 @@ abbrev pub arguments_code : List Operand → List Instr → Emit
 arguments_code [] behind p = behind
 arguments_code (a ∷ rest) behind p = a.1 p ++ arguments_code rest behind (p + expr_size a.0)
 
+-- The width at which code has an operator on one operand: `!`, which takes its operand whole, has the greatest one alone.
+abbrev pub width_of_unary : Op1 → Width → Width
+width_of_unary one.Not width = widths.W64
+width_of_unary operator width = width
+
+-- The operand, and the operator
+abbrev pub unary_code : Op1 → Width → Operand → Emit
+unary_code operator width operand p = operand.1 p ++ instr.Unary operator (width_of_unary operator width) ∷ []
+
 -- The code of an expression, once that of its parts is known
 abbrev pub expr_code_step : Layout → Expr-F Operand → Emit
 expr_code_step layout (Expr-F.Number number) p = instr.Push number ∷ []
@@ -72,7 +84,7 @@ expr_code_step layout (Expr-F.Cell slot index) p = index.1 p ++ instr.LoadCell (
 expr_code_step layout (Expr-F.Past variable back) p = instr.Past variable back ∷ []
 expr_code_step layout (Expr-F.Ready stream) p = instr.Ready stream ∷ []
 expr_code_step layout (Expr-F.Take stream) p = instr.Take stream ∷ []
-expr_code_step layout (Expr-F.Unary operator width operand) p = operand.1 p ++ instr.Unary operator width ∷ []
+expr_code_step layout (Expr-F.Unary operator width operand) p = unary_code operator width operand p
 expr_code_step layout (Expr-F.Binary operator width left right) p = binary_code operator width left right p
 expr_code_step layout (Expr-F.Call function arguments) p = arguments_code arguments (instr.Call function ∷ []) p
 expr_code_step layout (Expr-F.Cast width operand) p = operand.1 p ++ instr.Cast width ∷ []

@@ -5,11 +5,11 @@ ghost use Rattle.psy_arith.specs.declared.operators.Op2.TheVariants.{AndAnd, OrO
 ghost use Rattle.psy_code.specs.declared.instr.Instr.TheVariants.{AndTest, OrTest};
 ghost use Rattle.psy_tree.specs.Paths.{total};
 ghost use Rattle.psy_meaning.specs.Sizes.{expr_size};
-ghost use Rattle.psy_gen.specs.Emission.{expr_code, exprs_code};
+ghost use Rattle.psy_gen.specs.Emission.{expr_code, exprs_code, width_of_unary};
 
 use crate::instrs::Instrs;
 use crate::layout::Layout;
-use psy_arith::Op2;
+use psy_arith::{Op1, Op2, Width};
 use psy_base::Memory;
 use psy_code::{Binary, Instr};
 use psy_tree::Expr;
@@ -22,6 +22,16 @@ fn lazy_test(op: Op2, to: u32) -> Instr
     match op {
         Op2::AndAnd => Instr::AndTest(to),
         _ => Instr::OrTest(to),
+    }
+}
+
+/// The width at which code has an operator on one operand.
+fn width_of(op: Op1, width: Width) -> Width
+    ensures { result ≡ width_of_unary op width }
+{
+    match op {
+        Op1::Not => Width::W64,
+        _ => width,
     }
 }
 
@@ -49,7 +59,7 @@ pub fn emit_expr(code: &mut Instrs, layout: &Layout, expr: &Expr) -> Result<(), 
         Expr::Take(stream) => code.push(Instr::Take(*stream)),
         Expr::Unary(op, width, operand) => {
             emit_expr(code, layout, operand.get())?;
-            code.push(Instr::Unary(*op, *width))
+            code.push(Instr::Unary(*op, width_of(*op, *width)))
         }
         Expr::Binary(op, width, left, right) => {
             emit_expr(code, layout, left.get())?;

@@ -6,6 +6,7 @@ ghost use Rattle.psy_code.specs.declared.code.Code.{Code};
 ghost use Rattle.psy_tree.specs.declared.unit.Unit.{Unit as Whole};
 ghost use Rattle.psy_flow.specs.CodeLists.{AreCodePaths};
 ghost use Rattle.psy_flow.specs.declared.paths.Paths.{Paths};
+ghost use Rattle.psy_flow.specs.Verified.{IsVerified};
 ghost use Rattle.psy_gen.specs.Emission.{code_of};
 ghost use Rattle.psy_gen.specs.SameWays.{ArePathsOf, AreSameButSends, HasSameWays, SendsOutsideLoops};
 ghost use Rattle.psy_meaning.specs.Alike.{ActsAlike};
@@ -15,7 +16,7 @@ ghost use Rattle.psy_meaning.specs.Sound.{IsSoundUnit};
 ghost use Rattle.psy_meaning.specs.Units.{IsOfText};
 
 use psy_code::laws::lasting;
-use psy_flow::laws::{calls, known, one_list, sends};
+use psy_flow::laws::{calls, known, marked, one_list, sends};
 use psy_meaning::laws::{ends, sendings, sound};
 
 /// The code of a unit whose statements name what they can name acts as the statements.
@@ -58,4 +59,14 @@ pub fn same_lists()
 {
     one_list();
     sends();
+}
+
+/// The code of a unit of a text is verified, for the variables, streams and clocks of the unit.
+pub fn verified()
+    ensures { (unit : Whole) → IsOfText unit → IsVerified unit (code_of unit) }
+{
+    sound();
+    known();
+    calls();
+    marked();
 }

@@ -47,4 +47,5 @@ module _ (k : Inside) (is : KernelStands k) (p : Progress) (view : progress_of k
     exact = is.exact;
     declared = is.declared;
     turned = is.turned;
+    last = is.last;
   }

@@ -113,6 +113,12 @@ module _ (k : Inside) (is : EngineStands k) (processor : ℕ) (server : Server) 
       (All-contains (λ q. is_pending (turns_in k agent) q ≡ false) (history (run_in k) dates agent) r
       (nobody_pending (run_in k) k.plan.sizes k.plan.code k.plan.until (turns_in k) dates k.shared k.runners.items (waits_on k.plan.unit k.servers.items) (parts_in k is) lawful processor server.ready stands.waiting all waits stands.own mine over_now nobody agent of) there)
 
+  -- none comes first
+  pub nobody_first : IsChosen server.ready order None → soonest (pending (served k.plan.unit processor order) all (history (run_in k) (date + 1))) ≡ None
+  nobody_first nobody =
+      ap (λ m. soonest (pending (served k.plan.unit processor order) all (history (run_in k) m))) (sym inside.0)
+      ∙ nobody_soonest (run_in k) k.plan.sizes k.plan.code k.plan.until (turns_in k) dates k.shared k.runners.items (waits_on k.plan.unit k.servers.items) (parts_in k is) lawful processor server.ready stands.waiting all waits stands.own mine over_now order nobody
+
   module _ (nobody : IsChosen server.ready order None) (n : ℕ) (high : server.cycles + n ≤ (date + 1) * k.plan.unit.quantum) (ahead : (o : Order) → slice_get k.script.orders server.passed ≡ Some o → server.cycles + n ≤ o.cycle) where
     idle_stay : (j agent : ℕ) → All (StaysSo all (given_to None j all)) (history (run_in k) dates agent)
     idle_stay j agent at other less = let r : Action = get_or (history (run_in k) dates agent) at other in same_stays all (given_to None j all) r (missed_all None all r refl j)
@@ -121,8 +127,7 @@ module _ (k : Inside) (is : EngineStands k) (processor : ℕ) (server : Server) 
     idle_row : (j : ℕ) → j ≤ n → all_in (server.cycles + j) ≡ given_to None j all
     idle_row j less =
         in_row None
-        (ap (λ m. turn_of (soonest (pending (served k.plan.unit processor order) all (history (run_in k) m)))) (sym inside.0)
-        ∙ ap turn_of (nobody_soonest (run_in k) k.plan.sizes k.plan.code k.plan.until (turns_in k) dates k.shared k.runners.items (waits_on k.plan.unit k.servers.items) (parts_in k is) lawful processor server.ready stands.waiting all waits stands.own mine over_now order nobody))
+        (ap turn_of (nobody_first nobody))
         j (omega (arith, high, less)) (λ i below. order_until k is processor server d.there n ahead i (omega (arith, below, less))) (λ i below. idle_stay i)
 
     module _ (next : Server) (servers : List Server) (gone : HaveGone k processor server next n servers) (ready_is : next.ready ≡ server.ready) where
@@ -166,6 +171,7 @@ module _ (k : Inside) (is : EngineStands k) (processor : ℕ) (server : Server) 
     -- the last action of the agent gets the next cycle
     pub record Takes (r : Action) (before : List Action) : Type 0 where
       pub is_last : history (run_in k) dates agent ≡ r ∷ before
+      pub comes_first : soonest (pending (served k.plan.unit processor order) all (history (run_in k) (date + 1))) ≡ Some r
       pub first : turn_of (soonest (pending (served k.plan.unit processor order) all (history (run_in k) (date + 1)))) ≡ turn_of (Some r)
       pub pending : is_pending (turns_in k agent) r ≡ true
 
@@ -176,6 +182,7 @@ module _ (k : Inside) (is : EngineStands k) (processor : ℕ) (server : Server) 
           w.1,
           record {
             is_last = w.2;
+            comes_first = ap (λ m. soonest (pending (served k.plan.unit processor order) all (history (run_in k) m))) (sym inside.0) ∙ w.4;
             pending = subst (λ ts. is_pending ts w.0 ≡ true) (sym (mine agent home)) w.3;
             first = ap (λ m. turn_of (soonest (pending (served k.plan.unit processor order) all (history (run_in k) m)))) (sym inside.0) ∙ ap turn_of w.4;
           },
@@ -200,7 +207,7 @@ module _ (k : Inside) (is : EngineStands k) (processor : ℕ) (server : Server) 
       last : history (run_in k) (date + 1) agent ≡ r ∷ before
       last = ap (λ n. history (run_in k) n agent) (sym inside.0) ∙ t.is_last
 
-      gets : GetsCycle (run_in k) k.plan.code (turns_in k agent) k.plan.until date server.cycles agent r before
+      pub gets : GetsCycle (run_in k) k.plan.code (turns_in k agent) k.plan.until date server.cycles agent r before
       gets = d.gets agent r before home last t.pending
 
       own_agent : r.agent ≡ agent
@@ -209,7 +216,7 @@ module _ (k : Inside) (is : EngineStands k) (processor : ℕ) (server : Server) 
       own_home : processor_at k.plan.unit r.agent ≡ processor
       own_home = ap (processor_at k.plan.unit) own_agent ∙ home
 
-      looks : LooksBack (run_in k) k.plan.sizes k.plan.code (turns_in k) date r
+      pub looks : LooksBack (run_in k) k.plan.sizes k.plan.code (turns_in k) date r
       looks = d.looks server.cycles agent r before (turns_in k) d.cycle (mine agent home ∙ ap (turns_of (run_in k) (order_in k) server.cycles) (sym home)) last t.pending
 
       -- what it has, and what it sees
@@ -230,7 +237,7 @@ module _ (k : Inside) (is : EngineStands k) (processor : ℕ) (server : Server) 
               (looks.acts k.shared.rings.items k.shared.queues.items k.shared.taken.items outbox (subst (λ n. AreRingsOf (run_in k) k.plan.sizes n k.shared.rings.items) inside.0 rings_stand) (subst (λ n. AreQueuesOf (run_in k) k.plan.sizes n k.shared.queues.items) inside.0 queues_stand)
               is.shared.taking size (subst (λ u. HasDone (run_in k) k.plan.code r (charge_after (run_in k) r u).paid outbox.sends k.shared.taken.items) (sym had) did)))
 
-          is_given : IsGiven k.plan (opening_in k) k.shared.inputs.lists (stalls_of k.script) (turns_in k agent) now server.cycles agent r before runner deadline seat k.shared.ended.items
+          pub is_given : IsGiven k.plan (opening_in k) k.shared.inputs.lists (stalls_of k.script) (turns_in k agent) now server.cycles agent r before runner deadline seat k.shared.ended.items
               (sight_in k.plan.unit k.shared.rings.items k.shared.queues.items agent seat.start now) k.shared.taken.items outbox
           is_given =
               let given : (start : ℕ) → start ≡ r.start → IsGiven k.plan (opening_in k) k.shared.inputs.lists (stalls_of k.script) (turns_in k agent) date server.cycles agent r before runner deadline seat k.shared.ended.items

@@ -72,4 +72,6 @@ mod Idle
 mod RoundsDone
 mod Units
 mod WholeCycles
+mod Comings
+mod LastUnits
 pub mod lemmas

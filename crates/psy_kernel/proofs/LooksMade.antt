@@ -3,6 +3,7 @@ use Rattle.std.proofs.Common.{◌≡◌, refl, sym, ap, ◌∙◌, subst, arith}
 use Rattle.std.specs.Prelude.{ℕ, ◌<◌, Option, Some, None}
 use Rattle.psy_budget.specs.declared.charge.Tick.{Tick}
 use Rattle.psy_budget.specs.declared.charge.Tick.TheVariants as tick
+use Rattle.psy_machine.specs.Stepping.{look_of}
 use Rattle.psy_budget.specs.Charges.{cycle_of, tick_of}
 use Rattle.psy_code.specs.declared.code.Code.{Code}
 use Rattle.psy_code.specs.Execution.{RunState, Running, call_of, run_code}
@@ -12,7 +13,7 @@ use Rattle.psy_history.specs.Rings.{reach_with}
 use Rattle.psy_history.specs.Actions.{Action, System}
 use Rattle.psy_meaning.specs.CodeWays.{agent_code_at}
 use Rattle.psy_history.specs.Schedule.{work}
-use Rattle.psy_kernel.specs.Acting.{IsOfCode, LooksBy, look_of}
+use Rattle.psy_kernel.specs.Acting.{IsOfCode, LooksBy}
 use Rattle.psy_kernel.specs.Cycles.{IsNear, reach_by}
 use Rattle.psy_kernel.specs.Standing.{charge_after}
 use Rattle.psy_kernel.proofs.PaidCycles.{not_spent, paid_at, paid_few, stalled_at}

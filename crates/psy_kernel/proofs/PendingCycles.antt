@@ -12,13 +12,13 @@ use Rattle.psy_code.specs.Lasting.{IsOver}
 use Rattle.psy_code.specs.Views.{View, Call, PermitsAll, Window}
 use Rattle.psy_machine.specs.declared.machine.Step.{Step}
 use Rattle.psy_machine.specs.declared.machine.Step.TheVariants as step
-use Rattle.psy_machine.specs.Stepping.{AgentMachine, Answers, machine_after, next_for, stepped, window_after}
+use Rattle.psy_machine.specs.Stepping.{AgentMachine, Answers, look_of, machine_after, next_for, stepped, window_after}
 use Rattle.psy_history.specs.Actions.{Action, System}
 use Rattle.psy_history.specs.Executors.{Acted}
 use Rattle.psy_history.specs.Regular.{AnswerAlike}
 use Rattle.psy_kernel.specs.declared.engine.advance.Gone.{Gone}
 use Rattle.psy_kernel.specs.declared.engine.advance.Gone.TheVariants as gone
-use Rattle.psy_kernel.specs.Acting.{AfterCycle, AreDone, HasDoneBy, InAction, IsGone, IsLookIn, IsOfCode, ShowsAs, look_of}
+use Rattle.psy_kernel.specs.Acting.{AfterCycle, AreDone, HasDoneBy, InAction, IsGone, IsLookIn, IsOfCode, ShowsAs}
 use Rattle.psy_kernel.specs.Standing.{HasDone, IsRunning, charge_after}
 use Rattle.psy_kernel.specs.Stretches.{gone_by, gone_on}
 use Rattle.psy_kernel.proofs.PaidCycles.{not_spent as is_granted, paid_at, paid_few, paid_next, spent_is, up_to_next}

@@ -7,7 +7,7 @@ use Rattle.psy_history.specs.Schedule.{is_pending}
 use Rattle.psy_history.specs.Scheduled.{turns_of}
 use Rattle.psy_history.specs.Scripts.{IsScript, round_of}
 use Rattle.psy_kernel.specs.Progress.{Progress, next_processor, order, system}
-use Rattle.psy_kernel.specs.Slices.{IsOverBy, IsOverFor, after_units}
+use Rattle.psy_kernel.specs.Slices.{IsOverBy, IsOverFor, counted_on}
 use Rattle.psy_kernel.proofs.RoundsInForce.{lists_as_many, lists_round}
 use Rattle.psy_kernel.proofs.WholeCycles.{part_done}
 
@@ -26,10 +26,10 @@ over_by p processor cycles w = (
 
 module _ (p : Progress) (whole : p.units ≡ 0) where
   -- an action is over with the unit of the processor at a place
-  pub unit_over : (n : ℕ) → n < processors p.plan.unit → IsOverFor (after_units n p) (next_processor (after_units n p)) ((after_units n p).cycles + 1) → IsOverFor p (at_place p n) (p.cycles + 1)
+  pub unit_over : (n : ℕ) → n < processors p.plan.unit → IsOverFor (counted_on n p) (next_processor (counted_on n p)) ((counted_on n p).cycles + 1) → IsOverFor p (at_place p n) (p.cycles + 1)
   unit_over n less over = subst (λ (q : Progress). IsOverFor q (next_processor q) (q.cycles + 1)) (part_done p whole n less) over
 
-  pub unit_not : (n : ℕ) → n < processors p.plan.unit → (IsOverFor (after_units n p) (next_processor (after_units n p)) ((after_units n p).cycles + 1) → ⊥) → IsOverFor p (at_place p n) (p.cycles + 1) → ⊥
+  pub unit_not : (n : ℕ) → n < processors p.plan.unit → (IsOverFor (counted_on n p) (next_processor (counted_on n p)) ((counted_on n p).cycles + 1) → ⊥) → IsOverFor p (at_place p n) (p.cycles + 1) → ⊥
   unit_not n less not = subst (λ (q : Progress). IsOverFor q (next_processor q) (q.cycles + 1) → ⊥) (part_done p whole n less) not
 
   -- with none of all units

@@ -8,12 +8,12 @@ use Rattle.psy_code.specs.declared.code.Code.{Code}
 use Rattle.psy_code.specs.Execution.{RunState, Run, Running, RanTo, TrappedBy, NoRun, Stuck, call_of, next_of, go_on, run_by, run_one, run_code}
 use Rattle.psy_code.specs.Lasting.{IsOver}
 use Rattle.psy_code.specs.Views.{Call, Past, Ready, Take, Send, View, Window, PermitsAll, ServesAll, first_of, found_in}
-use Rattle.psy_machine.specs.Stepping.{window_after}
+use Rattle.psy_machine.specs.Stepping.{look_of, window_after}
 use Rattle.psy_history.specs.Actions.{Action, System}
 use Rattle.psy_meaning.specs.CodeWays.{agent_code_at}
 use Rattle.psy_history.specs.Regular.{AnswerAlike, Goes, MayAsk, begun_by}
 use Rattle.psy_meaning.specs.KnownWays.{Ways}
-use Rattle.psy_kernel.specs.Acting.{ShowsAs, look_of}
+use Rattle.psy_kernel.specs.Acting.{ShowsAs}
 
 module _ (code : Code) (its : AgentCode) where
   -- a run that is over stays so

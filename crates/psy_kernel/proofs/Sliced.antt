@@ -85,6 +85,7 @@ module _ (k : Inside) (is : KernelStands k) (p : Progress) (view : progress_of k
           (replicated_at end (processors k.engine.plan.unit) processor n at);
       declared = is.declared;
       turned = now;
+      last = is.last;
     }
 
     -- ---- the slice that one processor leads

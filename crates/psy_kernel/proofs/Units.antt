@@ -134,6 +134,7 @@ module _ (k : Inside) (is : KernelStands k) where
       exact = exact_by;
       declared = is.declared;
       turned = is.turned;
+      last = is.last;
     }
       where
         below : (a b : ℕ) → a < b → (a + 1 ≡ b → ⊥) → a + 1 < b
@@ -154,6 +155,7 @@ module _ (k : Inside) (is : KernelStands k) where
           (exact_by processor count there);
       declared = is.declared;
       turned = now;
+      last = is.last;
     }
 
 -- ---- as the code goes

@@ -7,8 +7,8 @@ use Rattle.psy_budget.specs.Charges.{Charged, tick_of}
 use Rattle.psy_code.specs.declared.code.Code.{Code}
 use Rattle.psy_code.specs.declared.look.Sent.{Sent}
 use Rattle.psy_code.specs.Execution.{RunState, Running, call_of, copy_of, run_code}
-use Rattle.psy_code.specs.Views.{Call, Deeds, Past, Send, Window, messages_of, past_of}
-use Rattle.psy_machine.specs.Stepping.{AgentMachine}
+use Rattle.psy_code.specs.Views.{Deeds, Past, Send, Window, messages_of, past_of}
+use Rattle.psy_machine.specs.Stepping.{AgentMachine, look_of}
 use Rattle.psy_queue.specs.Order.{Queued}
 use Rattle.psy_tree.specs.declared.unit.VarDecl.{VarDecl}
 use Rattle.psy_history.specs.Actions.{Action, System, Done, Trapped, Overran, charge_of, stream_of, timing, verdict_of}
@@ -71,11 +71,6 @@ pub record AreDone (s : System) (r : Action) (deeds : Deeds) (sends : List Sent)
   pub sent : sends ≡ deeds.sends
   pub took : (stream n : ℕ) → slice_get taken stream ≡ Some n → (stream_of s stream).receiver ≡ r.agent
       → n ≡ length (take (count_by (λ t. t == stream) deeds.takes) (r.seen stream))
-
--- The variable and the `back` that an instruction looks at, where it does
-abbrev pub look_of : Option Call → Option (ℕ × ℕ)
-look_of (Some (Past variable back)) = Some (variable, back)
-look_of call = None
 
 -- The look of a cycle of an action, by what the cycle goes to: that of the instruction that it pays.
 abbrev pub LooksBy : Code → Action → ℕ → Option (ℕ × ℕ) → Tick → Type 0

@@ -1,14 +1,23 @@
 -- When a kernel stands for its run: each processor did the cycles done, and its unit of the next one where its turn has come.
-use Rattle.std.specs.Prelude.{◌≡◌, ◌==◌, ℕ, ◌+◌, ◌-◌, ◌<◌, ◌≤◌, if◌then◌else◌, List, get_or, length, Some, slice_get, take}
-use Rattle.std.specs.List.{list_any, range_with_len}
+use Rattle.std.specs.Prelude.{◌≡◌, ◌==◌, ℕ, ◌-◌, ◌<◌, ◌≤◌, if◌then◌else◌, List, get_or, length, Option, None, Some, slice_get, ⊤}
+use Rattle.std.specs.List.{range_with_len}
+use Rattle.psy_dates.specs.declared.plan.Plan.{Plan}
 use Rattle.psy_dates.specs.Plans.{IsPlan}
+use Rattle.psy_history.specs.Actions.{System}
 use Rattle.psy_history.specs.Processors.{processors}
-use Rattle.psy_history.specs.Scripts.{IsScript, round_of}
+use Rattle.psy_history.specs.Scripts.{IsScript}
 use Rattle.psy_history.specs.declared.told.Round.{Round}
 use Rattle.psy_kernel.specs.Engines.{next_date}
-use Rattle.psy_kernel.specs.Progress.{Progress}
+use Rattle.psy_kernel.specs.Progress.{Progress, UnitOf, cycles_on, order, system}
+use Rattle.psy_kernel.specs.Units.{IsLookAt, served_at}
+use Rattle.psy_kernel.specs.declared.kernel.LastUnit.{LastUnit}
 use Rattle.psy_kernel.specs.Standing.{InTick}
 use Rattle.psy_kernel.specs.declared.kernel.Kernel.TheInside.{Inside}
+
+-- Which unit was done last
+abbrev pub unit_of : Option LastUnit → Option UnitOf
+unit_of None = None
+unit_of (Some last) = Some (record { processor = last.processor; cycle = last.cycle })
 
 -- How far the run is
 abbrev pub progress_of : Inside → Progress
@@ -21,15 +30,8 @@ progress_of k = record {
   cycles = k.cycles;
   units = k.units;
   given = k.engine.given;
+  last = unit_of k.last;
 }
-
--- The processors that had their unit of the cycle that comes next: the first of its round
-abbrev pub had_unit : Progress → List ℕ
-had_unit p = take p.units (round_of p.plan.unit p.script p.cycles)
-
--- How many cycles of a processor were done: one more where it had its unit of the cycle that comes next
-abbrev pub cycles_on : Progress → ℕ → ℕ
-cycles_on p processor = if list_any (λ n. n == processor) (had_unit p) then p.cycles + 1 else p.cycles
 
 -- The round of the last of so many rounds that have come into force, and the first one where none has
 abbrev pub round_by : List ℕ → List Round → ℕ → List ℕ
@@ -40,6 +42,11 @@ pub record AreTurned (rounds : List Round) (turned cycle : ℕ) : Type 0 where
   pub within : turned ≤ length rounds
   pub come : (place : ℕ) (r : Round) → slice_get rounds place ≡ Some r → place < turned → r.cycle ≤ cycle
   pub ahead : (place : ℕ) (r : Round) → slice_get rounds place ≡ Some r → turned ≤ place → cycle < r.cycle
+
+-- It is known which agent ran with the unit that was done last, and what it looked at.
+abbrev pub LastStands : System → Plan → (ℕ → List ℕ) → Option LastUnit → Type 0
+LastStands s plan order None = ⊤
+LastStands s plan order (Some last) = (last.ran ≡ served_at s order last.processor last.cycle) × IsLookAt s plan order last.processor last.cycle last.seen
 
 -- A kernel whose processors did just the cycles and units that it counts
 pub record KernelStands (k : Inside) : Type 0 where
@@ -52,3 +59,4 @@ pub record KernelStands (k : Inside) : Type 0 where
   pub exact : (processor done : ℕ) → slice_get k.engine.done processor ≡ Some done → done ≡ cycles_on (progress_of k) processor
   pub declared : k.declared.items ≡ range_with_len 0 (processors k.engine.plan.unit)
   pub turned : AreTurned k.engine.script.rounds k.turned k.cycles
+  pub last : LastStands (system (progress_of k)) k.engine.plan (order (progress_of k)) k.last

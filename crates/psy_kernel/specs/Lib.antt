@@ -12,3 +12,4 @@ pub mod Starting
 pub mod Stretches
 pub mod Telling
 pub mod Texts
+pub mod Units

@@ -7,7 +7,7 @@ use Rattle.psy_history.specs.Schedule.{Turn, is_pending}
 use Rattle.psy_history.specs.Processors.{processor_at}
 use Rattle.psy_history.specs.Scheduled.{turns_by, turns_of}
 use Rattle.psy_history.specs.declared.told.Order.{Order}
-use Rattle.psy_kernel.specs.Progress.{Progress, after_cycle, after_unit, order, system}
+use Rattle.psy_kernel.specs.Progress.{Progress, after_cycle, after_unit, counted, order, system}
 
 -- By agent, what the first so many cycles of its processor go to in a run, the last one first
 abbrev pub turns_at : Progress → ℕ → ℕ → List (Option Turn)
@@ -42,6 +42,11 @@ pub record IsSliceEnd (p : Progress) (cycles : ℕ) : Type 0 where
   pub some : p.cycles < cycles
   pub changes : Changes p cycles
   pub first : (between : ℕ) → p.cycles < between → between < cycles → Changes p between → ⊥
+
+-- So many units are counted, one by one.
+abbrev pub counted_on : ℕ → Progress → Progress
+counted_on zero p = p
+counted_on (suc n) p = counted (counted_on n p)
 
 -- So many units, one by one
 abbrev pub after_units : ℕ → Progress → Progress

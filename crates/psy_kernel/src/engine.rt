@@ -3,6 +3,7 @@
 mod advance;
 mod ahead;
 mod boot;
+mod coming;
 mod cycle;
 mod date;
 mod idle;
@@ -92,7 +93,9 @@ impl Model for Engine {
 
 impl Engine {
     ghost use Rattle.std.specs.Prelude.{◌≡◌};
+    ghost use Rattle.psy_dates.specs.Standing.{SharedStands};
     ghost use Rattle.psy_history.specs.Processors.{processors};
+    ghost use Rattle.psy_kernel.specs.Engines.{history_of, turns_done};
 
     /// The last date of the run.
     pub(crate) fn until(&self) -> u32
@@ -114,6 +117,21 @@ impl Engine {
     {
         one_of_them();
         self.servers.len() as u32
+    }
+
+    /// The plan that is run.
+    pub(crate) fn plan(&self) -> &Plan
+        ensures { result.now ≡ self.now.plan }
+    {
+        &self.plan
+    }
+
+    /// What the agents share.
+    pub(crate) fn shared(&self) -> &Shared
+        ensures inputs { result.now.inputs.lists ≡ self.now.inputs }
+        ensures stands { SharedStands (history_of self.now) self.now.plan.sizes (turns_done self.now) self.now.dates result.now }
+    {
+        &self.shared
     }
 
     /// The rounds of the script.

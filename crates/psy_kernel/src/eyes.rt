@@ -101,7 +101,7 @@ impl<'a> Scene<'a> {
     }
 
     /// The value that the variable published `back` of its dates before the start.
-    fn past(&self, variable: u32, back: u32) -> i32
+    pub fn past(&self, variable: u32, back: u32) -> i32
         requires { IsSome (past_of (view_in self.now.rings self.now.variables self.now.clocks self.now.start self.now.date []) variable back) }
         ensures { past_of (view_in self.now.rings self.now.variables self.now.clocks self.now.start self.now.date []) variable back ≡ Some result }
     {

@@ -2,6 +2,7 @@
 
 mod boot;
 mod date;
+mod last;
 mod lines;
 mod round;
 mod slice;
@@ -10,10 +11,20 @@ mod tick;
 mod unit;
 
 use crate::engine::Engine;
+use crate::seen::Seen;
 use std::marker::Model;
 
-/// The run of a plan. Contracts see how many dates and cycles of it were done, how many units of the next cycle, and how many lines of the last
-/// date were given. Its lines and its summary are those of the dated history.
+/// The unit that was done last: of this processor at this cycle, the agent that got it, and what its action looked at.
+#[derive(Clone, Copy, Debug)]
+struct LastUnit {
+    processor: u32,
+    cycle: u64,
+    ran: Option<u32>,
+    seen: Option<Seen>,
+}
+
+/// The run of a plan. Contracts see how many dates and cycles of it were done, how many units of the next cycle, how many lines of the last
+/// date were given, and which unit was the last step, where it was one. Its lines and its summary are those of the dated history.
 #[derive(Drop)]
 pub struct Kernel {
     engine: Engine,
@@ -24,6 +35,8 @@ pub struct Kernel {
     declared: Vec<u32>,
     /// How many of the script's rounds have come into force.
     turned: usize,
+    /// The unit that was the last step.
+    last: Option<LastUnit>,
 }
 
 impl Model for Kernel {

@@ -3,19 +3,19 @@
 ghost use Rattle.std.specs.Prelude.{ℕ, ◌≡◌, ◌+◌, ◌*◌, ◌-◌, ◌<◌, ◌≤◌};
 ghost use Rattle.psy_history.specs.Processors.{processors};
 ghost use Rattle.psy_kernel.specs.declared.stage.Stage.TheVariants.{CycleDue};
-ghost use Rattle.psy_kernel.specs.Progress.{Progress, after_cycle, stage_of, up_to_date};
+ghost use Rattle.psy_kernel.specs.Progress.{Progress, after_cycle, at_rest, stage_of, up_to_date};
 ghost use Rattle.psy_kernel.specs.Slices.{IsSliceEnd, after_cycles, after_units};
 
-/// A cycle is as many units as there are processors, whatever their round. A slice has one end. It is as many cycles one by one, each of which is
-/// due where those before it were done; and so are all cycles before a date.
+/// A cycle is as many units as there are processors, whatever their round, but that it leaves no unit as the last step. A slice has one end. It is as
+/// many cycles one by one, each of which is due where those before it were done; and so are all cycles before a date.
 pub fn slices()
-    ensures units { (p : Progress) → p.units ≡ 0 → 1 ≤ processors p.plan.unit → after_units (processors p.plan.unit) p ≡ after_cycle p }
+    ensures units { (p : Progress) → p.units ≡ 0 → 1 ≤ processors p.plan.unit → at_rest (after_units (processors p.plan.unit) p) ≡ after_cycle p }
     ensures one_end { (p : Progress) (a b : ℕ) → IsSliceEnd p a → IsSliceEnd p b → a ≡ b }
-    ensures cycles { (p : Progress) (end : ℕ) → IsSliceEnd p end → record p { cycles = end } ≡ after_cycles (end - p.cycles) p }
+    ensures cycles { (p : Progress) (end : ℕ) → IsSliceEnd p end → record p { cycles = end; last = None } ≡ after_cycles (end - p.cycles) p }
     ensures due { (p : Progress) (end n : ℕ) → IsSliceEnd p end → stage_of p ≡ CycleDue p.cycles → p.cycles + n < end
         → stage_of (after_cycles n p) ≡ CycleDue (p.cycles + n) }
     ensures tick { (p : Progress) → p.cycles ≤ p.dates * p.plan.unit.quantum
-        → up_to_date p ≡ after_cycles (p.dates * p.plan.unit.quantum - p.cycles) p }
+        → up_to_date p ≡ at_rest (after_cycles (p.dates * p.plan.unit.quantum - p.cycles) p) }
     ensures due_on { (p : Progress) (n : ℕ) → stage_of p ≡ CycleDue p.cycles → p.cycles + n < p.dates * p.plan.unit.quantum
         → stage_of (after_cycles n p) ≡ CycleDue (p.cycles + n) }
 {}

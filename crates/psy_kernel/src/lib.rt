@@ -7,8 +7,10 @@ mod engine;
 mod eyes;
 mod kernel;
 pub mod laws;
+mod seen;
 mod stage;
 
 pub use kernel::Kernel;
 pub use psy_budget::Stall;
+pub use seen::Seen;
 pub use stage::Stage;

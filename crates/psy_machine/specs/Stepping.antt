@@ -2,7 +2,7 @@
 use Rattle.std.specs.Prelude.{◌≡◌, ℕ, ◌≤◌, Option, Some, None, slice_get}
 use Rattle.psy_code.specs.declared.code.Code.{Code}
 use Rattle.psy_code.specs.declared.code.AgentCode.{AgentCode}
-use Rattle.psy_code.specs.Views.{View, Window, Call, answered}
+use Rattle.psy_code.specs.Views.{View, Window, Call, Past, answered}
 use Rattle.psy_code.specs.Execution.{Machine, Next, Went, Ended, Trapped, Stuck, need, next_of, new_machine}
 use Rattle.psy_machine.specs.declared.machine.Step.{Step}
 use Rattle.psy_machine.specs.declared.machine.Step.TheVariants as step
@@ -50,3 +50,8 @@ stepped code view m = record m { machine = machine_after (next_for code view m) 
 abbrev pub window_after : Window → Option Call → Window
 window_after window None = window
 window_after window (Some call) = answered window call
+
+-- The variable and the `back` that an instruction looks at, by what it asks, where it does
+abbrev pub look_of : Option Call → Option (ℕ × ℕ)
+look_of (Some (Past variable back)) = Some (variable, back)
+look_of call = None

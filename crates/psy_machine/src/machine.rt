@@ -1,8 +1,8 @@
 //! The machine of an agent.
-ghost use Rattle.std.specs.Prelude.{◌≡◌, ◌≢◌, ◌<◌, length, slice_index_or, Some, IsSome, IfOk};
+ghost use Rattle.std.specs.Prelude.{◌≡◌, ◌≢◌, ◌<◌, List, length, slice_index_or, Some, IsSome, IfOk, ℤ};
 ghost use Rattle.psy_code.specs.Execution.{Stuck, copy_of, call_of, call_by, does};
 ghost use Rattle.psy_code.specs.Views.{PermitsAll};
-ghost use Rattle.psy_machine.specs.Stepping.{IsOf, IsNew, Answers, next_for, stepped, window_after};
+ghost use Rattle.psy_machine.specs.Stepping.{IsOf, IsNew, Answers, look_of, next_for, stepped, window_after};
 ghost use Rattle.psy_machine.specs.Acting.{CanDo, Did};
 
 mod control;
@@ -94,6 +94,16 @@ impl Machine {
         self.act(code, agent, instr, look)
     }
 
+    /// The variable and the `back` that the next instruction looks at; None where it makes no look. It takes no memory.
+    pub fn look_due(&self, code: &Code) -> Option<(u32, u32)>
+        ensures { result ≡ look_of (call_of code.now self.now.machine) }
+    {
+        match code.instrs.as_slice().get(self.place) {
+            Some(instr) => look_by(instr),
+            None => None,
+        }
+    }
+
     /// The working copy of a variable that the agent owns.
     pub fn copy(&self, variable: u32) -> i32
         requires { IsSome (copy_of variable self.now.machine.copies) }
@@ -157,6 +167,16 @@ impl Machine {
             Instr::Unary(operator, width) => self.unary(operator, width),
             Instr::Cast(width) => self.cast(width),
         }
+    }
+}
+
+/// The variable and the `back` that an instruction looks at, where it does.
+fn look_by(instr: &Instr) -> Option<(u32, u32)>
+    ensures { (operands : List ℤ) → result ≡ look_of (call_by instr.now operands) }
+{
+    match *instr {
+        Instr::Past { variable, back } => Some((variable, back)),
+        _ => None,
     }
 }
 

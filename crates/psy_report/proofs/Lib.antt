@@ -1,4 +1,4 @@
 -- The lemmas of this crate, by subject.
-mod Causes
 mod Joins
 mod Own
+mod OwnSizes

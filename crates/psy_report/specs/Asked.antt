@@ -3,8 +3,8 @@ use Rattle.std.specs.Prelude.{◌≡◌, ℕ, ◌<◌, ◌≤◌, nat_le, if◌t
 use Rattle.std.specs.Prelude.{Option, Some, None, MatchOption}
 use Rattle.psy_base.specs.declared.limits.TheConstants.{UNTIL}
 use Rattle.psy_history.specs.Processors.{processors}
-use Rattle.psy_source.specs.Programs.{IsProgram, IsRefused}
-use Rattle.psy_source.specs.declared.refusal.Refusal.{Refusal}
+use Rattle.psy_plan.specs.Programs.{IsProgram, IsRefused}
+use Rattle.psy_plan.specs.declared.refusal.Refusal.{Refusal}
 use Rattle.psy_text.specs.Words.{number_of, words_of}
 use Rattle.psy_tree.specs.Parts.{agent_at}
 use Rattle.psy_tree.specs.declared.unit.Unit.{Unit as Whole}

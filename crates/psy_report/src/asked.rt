@@ -11,7 +11,7 @@ use crate::measures::{Measures, measure};
 use crate::piece::add_named;
 use psy_base::{Memory, limits};
 use psy_history::processors_of;
-use psy_source::{Stop, unit_of};
+use psy_plan::{Stop, compile};
 use psy_text::word::{number, words_of};
 use psy_text::write::add_labelled;
 use psy_tree::Unit;
@@ -94,7 +94,7 @@ fn asked_by(alloc: Global, program: &[u8], over: Overload) -> Result<Vec<u8>, Me
     requires { length program.now ≤ FILE_BYTES }
     ensures { IfOk result (λ told. AreAskedBy program.now over told.items) }
 {
-    let unit = match unit_of(alloc, program) {
+    let unit = match compile(alloc, program) {
         Ok(unit) => unit,
         Err(Stop::Refused(_)) => return Ok(Vec::new(alloc)),
         Err(Stop::Memory) => return Err(Memory),

@@ -2,15 +2,15 @@
 ghost use Rattle.std.specs.Prelude.{◌≡◌, ◌^◌, ◌<◌, ◌≤◌, IfErr, IfOk, length};
 ghost use Rattle.std.specs.List.{All};
 ghost use Rattle.psy_meaning.specs.Units.{IsOfText};
-ghost use Rattle.psy_source.specs.Programs.{Stops};
+ghost use Rattle.psy_plan.specs.Courses.{Stops};
 ghost use Rattle.psy_report.specs.Measured.{AreMeasures, IsUnmeasured};
 
-use crate::demands::{lines_of, lists_of};
-use crate::graphs::{graphs, sizes};
+use crate::demands::lists_of;
 use psy_base::{Items, Sizes};
-use psy_flow::worsts;
+use psy_flow::laws::one_list;
+use psy_flow::{ways, worsts};
+use psy_plan::{Stop, graphs, lines_of, sizes};
 use psy_rate::Rate;
-use psy_source::Stop;
 use psy_tree::Unit;
 use std::alloc::Global;
 
@@ -37,8 +37,10 @@ pub fn measure(alloc: Global, unit: &Unit, top: u32) -> Result<Measures, Stop>
     ensures count { IfOk result (λ measures. length measures.lists ≡ length unit.now.agents) }
     ensures refused { IfErr result (Stops (IsUnmeasured unit.now top)) }
 {
-    let graphs = graphs(alloc, unit)?;
-    let sizes = sizes(alloc, unit, &graphs)?;
+    one_list();
+    let ways = ways(alloc, unit)?;
+    let graphs = graphs(alloc, unit, &ways)?;
+    let sizes = sizes(alloc, unit, &graphs, &ways)?;
     let costs = worsts(alloc, unit)?;
     let lines = lines_of(alloc, &graphs)?;
     let lists = lists_of(alloc, &graphs, top)?;

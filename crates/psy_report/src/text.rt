@@ -4,7 +4,7 @@ ghost use Rattle.std.specs.List.{All, range_with_len};
 ghost use Rattle.psy_base.specs.declared.limits.TheConstants.{PROCESSORS};
 ghost use Rattle.psy_meaning.specs.Units.{IsBare, IsOfText};
 ghost use Rattle.psy_report.specs.Measured.{IsUnmeasured};
-ghost use Rattle.psy_source.specs.Programs.{Stops};
+ghost use Rattle.psy_plan.specs.Courses.{Stops};
 ghost use Rattle.psy_report.specs.Reports.{IsReport, left_text, over_text, queue_text, report_text, ring_text, tight_text};
 
 use crate::agents::{add_agents, add_end, add_parts};
@@ -13,7 +13,7 @@ use crate::measures::{Measures, measure};
 use crate::piece::add_named;
 use crate::tight::{demand, tightest_of};
 use crate::warnings::{add_costs, add_inputs, add_streams, stream_name, variable_name};
-use psy_source::Stop;
+use psy_plan::Stop;
 use psy_text::write::add_labelled;
 use psy_tree::Unit;
 use std::alloc::{AllocError, Global};

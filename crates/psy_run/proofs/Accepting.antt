@@ -16,8 +16,10 @@ use Rattle.psy_script.specs.Inputs.{AreListsOf}
 use Rattle.psy_script.specs.Script.{IsScriptOf}
 use Rattle.psy_tree.specs.declared.unit.Unit.{Unit as Whole}
 use Rattle.psy_history.proofs.lemmas.NoInputs.{are_no_inputs}
+use Rattle.psy_plan.specs.Supplies.{IsSupply, Supply}
+use Rattle.psy_plan.specs.Supplies as supplies
 use Rattle.psy_run.specs.Accepted.{IsRunnable}
-use Rattle.psy_run.specs.Answer.{Answers, refused, served, Supply, compiling, supplying, listing, scripting, running, trying, serving, answering}
+use Rattle.psy_run.specs.Answer.{Answers, refused, served, compiling, supplying, listing, scripting, running, trying, serving, answering}
 use Rattle.psy_run.specs.Asked.{Asks, Command, Run, Check, Graph, Make, Trial}
 use Rattle.psy_run.specs.Bounds.{IsBounded, IsBorneOut, KeepsBounds}
 use Rattle.psy_run.specs.Courses.{in_row}
@@ -29,8 +31,11 @@ use Rattle.psy_run.proofs.DecidedAnswers.{compiled, translated}
 use Rattle.psy_run.proofs.DecidedSteps.{TextsHold}
 use Rattle.psy_run.proofs.MeaningText.{Keeps, is_no_script}
 use Rattle.psy_run.proofs.PlanLemmas.{Apart, is_feasible_for}
-use Rattle.psy_run.proofs.SupplyLemmas.{AllMet, supply_is}
 use Rattle.psy_run.proofs.TopLemmas.{AllBounded, status_some}
+
+-- What is supplied has its graphs, points, sizes and lines, and processors that supply its demand.
+abbrev pub SuppliesHold : Type 0
+SuppliesHold = (unit : Whole) (until : ℕ) (supply : Supply) → IsOfText unit → (supplies.supplying unit until).gives supply → IsSupply unit until supply
 
 -- ---- bounds
 
@@ -44,7 +49,7 @@ pub record RunsHold : Type 0 where
   pub inputs : (unit : Whole) (text : List ℕ) (lists : List (List ℤ)) → AreListsOf unit text lists → AreInputs unit lists
   pub script : (unit : Whole) (text : List ℕ) (said : Said) → IsScriptOf unit text said → IsScript unit said
   pub keeps : Keeps
-  pub met : AllMet
+  pub met : SuppliesHold
 
 module _ (hold : RunsHold) where
   -- A program that is supplied has a plan, and so keeps its bounds.
@@ -52,7 +57,7 @@ module _ (hold : RunsHold) where
       → KeepsBounds (meaning_of unit supply.nexts lists said) (order_of unit said) supply.sizes until
   supplied_bounded unit until supply lists said text supplied are script =
       let plan : Plan = record { unit = unit; code = code_of unit; nexts = supply.nexts; sizes = supply.sizes; until = until } in
-      let is = supply_is hold.met unit until supply text supplied in
+      let is = hold.met unit until supply text supplied in
       let planned : IsStatedPlan plan = record {
         compiled = record { text = text; alike = hold.alike unit text; followed = is.followed };
         buffers = is.sized;
@@ -98,12 +103,12 @@ module _ (hold : RunsHold) where
 
 -- ---- what a check tells
 
-module _ (of_text : TextsHold) (met : AllMet) where
+module _ (of_text : TextsHold) (met : SuppliesHold) where
   serving_borne_out : (files : Option Files) (command : Command) (done : Service) → (serving files command).gives done → IsBorneOut done
   unfolding in_row
   serving_borne_out files (Run name until inputs script) done (unit, made, (supply, supplied, (lists, listed, (said, told, (paced, fits, is))))) = subst IsBorneOut (sym is) tt
   serving_borne_out files (Check name until) done (unit, made, (supply, supplied, is)) =
-      let its = supply_is met unit until supply (compiled of_text files name unit made) supplied in
+      let its = met unit until supply (compiled of_text files name unit made) supplied in
       subst IsBorneOut (sym is) (supply.graphs, its.drawn, its.rated, its.met)
   serving_borne_out files (Graph name) done (unit, made, (graphs, drawn, (costs, found, is))) = subst IsBorneOut (sym is) tt
   serving_borne_out files (Make seed) done is = subst IsBorneOut (sym is) tt
@@ -140,7 +145,7 @@ compiled_again : (files others : Files) (program again : List ℕ) (unit : Whole
 unfolding in_row
 compiled_again files others program again unit same (bytes, (few, is), made) = (bytes, (few, is ∙ sym same), made)
 
-pub is_runnable : AllBounded → TextsHold → AllMet → (files others : Files) (checked ran : List (List ℕ)) (program again : List ℕ) (until : ℕ) (inputs script : Option (List ℕ)) (text : List ℕ)
+pub is_runnable : AllBounded → TextsHold → SuppliesHold → (files others : Files) (checked ran : List (List ℕ)) (program again : List ℕ) (until : ℕ) (inputs script : Option (List ℕ)) (text : List ℕ)
     → Asks checked (Check program until) → Answers checked (Some files) 0 text → Asks ran (Run again until inputs script) → bytes_under others again ≡ bytes_under files program
     → IsRunnable ran others again until inputs script
 is_runnable bounded of_text met files others checked ran program again until inputs script text asks answers runs same =
@@ -148,7 +153,7 @@ is_runnable bounded of_text met files others checked ran program again until inp
     let unit = accepted.unit in
     let supply = accepted.supply in
     let made = compiled_again files others program again unit same accepted.made in
-    let its = supply_is met unit until supply (compiled of_text (Some files) program unit accepted.made) accepted.supplied in
+    let its = met unit until supply (compiled of_text (Some files) program unit accepted.made) accepted.supplied in
     let gives : (lists : List (List ℤ)) (said : Said) → (listing (Some others) unit inputs).gives lists → (scripting (Some others) unit script).gives said → until * unit.quantum ≤ RUN
     → (answering ran (Some others)).gives (Ran unit supply.nexts supply.sizes until lists said) =
     λ lists said listed told fits. gives_then _ _ (Run again until inputs script) _ runs

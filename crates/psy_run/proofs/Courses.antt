@@ -1,11 +1,17 @@
 -- Courses step by step: how they are left, that they come to one end, that they come to some, and that they do both.
-use Rattle.std.proofs.Common.{◌≡◌, ◌∙◌, sym, subst, refl, ℕ, List, ◌⊎◌, inl, inr, Result, Ok, Err, IfOk, IfErr}
+use Rattle.std.proofs.Common.{◌≡◌, ◌∙◌, sym, subst, ap, refl, ℕ, List, ◌⊎◌, inl, inr, Result, Ok, Err, IfOk, IfErr}
 use Rattle.std.specs.Result.{IsErrAnd}
+use Rattle.psy_plan.specs.declared.refusal.Refusal.{Refusal as Cause}
+use Rattle.psy_plan.specs.declared.refusal.Stop.{Stop as PlanStop}
+use Rattle.psy_plan.specs.declared.refusal.Stop.TheVariants as at_plan
+use Rattle.psy_plan.specs.Courses.{Course as Plan, Stops, IsDecided as IsPlanDecided}
 use Rattle.psy_run.specs.declared.refusal.Refusal.{Refusal}
+use Rattle.psy_run.specs.declared.refusal.Refusal.TheVariants.{Unplanned}
 use Rattle.psy_run.specs.declared.refusal.Stop.{Stop}
 use Rattle.psy_run.specs.declared.refusal.Stop.TheVariants.{Memory}
-use Rattle.psy_run.specs.Courses.{Course, step, pure, unless, in_row}
+use Rattle.psy_run.specs.Courses.{Course, step, planned, pure, unless, in_row}
 use Rattle.psy_run.specs.Outcome.{Halts, halts_refused, halts_unread, halts_memory}
+use Rattle.psy_run.specs.Refusals.{stop_of}
 
 -- ---- in a row
 
@@ -144,3 +150,32 @@ decided_unless Holds Fails refusal never either = record { one = one_unless Hold
 -- One course, and with what it gives another
 pub decided_then : {X Y : Type 0} (c : Course X) (f : X → Course Y) → IsDecided c → ((x : X) → c.gives x → IsDecided (f x)) → IsDecided (in_row c f)
 decided_then c f first later = record { one = one_then c f first.one (λ x gives. (later x gives).one); some = some_then c f first.some (λ x gives. (later x gives).some) }
+
+-- ---- the plan's steps
+
+-- Where they stop, a command does.
+pub halts_planned : {X : Type 0} (c : Plan X) (failed : List ℕ) (before after : ℕ) (stop : PlanStop) → Stops c.stops stop → Halts (planned c) failed before after (stop_of stop)
+halts_planned c failed before after (at_plan.Refused cause) stops = halts_refused (Unplanned cause) stops
+halts_planned c failed before after at_plan.Memory stops = halts_memory
+
+-- A refusal of them is one of the plan's.
+planned_is : {X : Type 0} (c : Plan X) (refusal : Refusal) → (planned c).stops refusal → (cause : Cause) × (refusal ≡ Unplanned cause) × c.stops cause
+planned_is c (Unplanned cause) stops = (cause, refl, stops)
+planned_is c _ never = absurd never
+
+-- They come to one end, where the plan does.
+pub decided_planned : {X : Type 0} (c : Plan X) → IsPlanDecided c → IsDecided (planned c)
+decided_planned c decided = record {
+  one = record {
+    gift = decided.one.gift;
+    stop = λ r s p q.
+        let (cause, is, stops) = planned_is c r p in
+        let (other, is', stops') = planned_is c s q in
+        is ∙ ap Unplanned (decided.one.stop cause other stops stops') ∙ sym is';
+    apart = λ x r p q. let (cause, is, stops) = planned_is c r q in decided.one.apart x cause p stops;
+  };
+  some = elim decided.some [
+    | inl gift ↦ inl gift
+    | inr stop ↦ inr (Unplanned stop.0, stop.1)
+  ];
+}

@@ -5,44 +5,35 @@ use Rattle.psy_door.specs.Files.{Files}
 use Rattle.psy_meaning.specs.Units.{IsOfText}
 use Rattle.psy_tree.specs.declared.unit.Unit.{Unit as Whole}
 use Rattle.psy_make.specs.Text.{made_text}
+use Rattle.psy_plan.specs.Programs as programs
+use Rattle.psy_plan.specs.Steps as plan
+use Rattle.psy_plan.specs.Supplies as supplies
 use Rattle.psy_run.specs.declared.refusal.File.TheVariants as file
 use Rattle.psy_run.specs.declared.refusal.Refusal.{Refusal}
 use Rattle.psy_run.specs.Answer.{Answers, refused, served, answering, serving, translating, compiling, supplying, listing, scripting, running, checking, drawing, planning, trying}
 use Rattle.psy_run.specs.Asked.{Command, Run, Check, Graph as Draw, Make, Trial}
 use Rattle.psy_run.specs.Courses.{in_row}
-use Rattle.psy_run.specs.Extents.{length_of}
 use Rattle.psy_run.specs.Refusals.{status_of, line_of}
 use Rattle.psy_run.specs.Services.{Service, Ran, Checked, Drawn, Made, Tried, no_inputs, no_script, text_of}
 use Rattle.psy_run.proofs.AskingForms.{decided_asking}
-use Rattle.psy_run.proofs.Courses.{IsDecided, decided_pure, decided_then}
-use Rattle.psy_run.proofs.DecidedPlans.{decided_graphing, decided_sizing, decided_costing, decided_rating, decided_extending, decided_windowing, decided_demanding, decided_following}
-use Rattle.psy_run.proofs.DecidedSteps.{StepsDecide, TextsHold, decided_reading, decided_lexing, decided_parsing, decided_resolving, decided_stating, decided_directing, decided_pacing}
+use Rattle.psy_run.proofs.Courses.{IsDecided, decided_planned, decided_pure, decided_then}
+use Rattle.psy_run.proofs.DecidedSteps.{PlansDecide, TextsHold, decided_reading, decided_stating, decided_directing, decided_pacing}
 
 -- A program of a short text is one of a text.
 pub translated : TextsHold → (bytes : List ℕ) (unit : Whole) → length bytes ≤ FILE_BYTES → (translating bytes).gives unit → IsOfText unit
-unfolding in_row
-translated of_text bytes unit short (tokens, lexed, (raw, parsed, stands)) = of_text bytes tokens raw unit short lexed parsed.1 stands
+translated of_text bytes unit short made = of_text bytes unit short made
 
 -- So is a program of a file.
 pub compiled : TextsHold → (files : Option Files) (name : List ℕ) (unit : Whole) → (compiling files name).gives unit → IsOfText unit
 unfolding in_row
 compiled of_text files name unit (bytes, read, made) = translated of_text bytes unit read.0 made
 
-module _ (laws : StepsDecide) where
+module _ (laws : PlansDecide) where
   decided_translating : (bytes : List ℕ) → IsDecided (translating bytes)
-  decided_translating bytes = decided_then _ _ (decided_lexing laws bytes) (λ tokens lexed.
-      decided_then _ _ (decided_parsing laws tokens) (λ raw parsed.
-      decided_resolving laws raw))
+  decided_translating bytes = decided_planned (programs.translating bytes) (laws.program bytes)
 
   decided_supplying : (unit : Whole) (until : ℕ) → IsOfText unit → IsDecided (supplying unit until)
-  decided_supplying unit until of = decided_then _ _ (decided_graphing laws unit of) (λ graphs drawn.
-      decided_then _ _ (decided_following laws unit of) (λ nexts follow.
-      decided_then _ _ (decided_sizing laws unit of graphs nexts drawn follow) (λ sizes sized.
-      decided_then _ _ (decided_rating laws unit of graphs drawn) (λ lines rated.
-      decided_then _ _ (decided_extending laws unit of lines until) (λ extent looked.
-      decided_then _ _ (decided_windowing graphs (length_of extent)) (λ few held.
-      decided_then _ _ (decided_demanding laws unit of graphs (length_of extent) drawn) (λ done feasible.
-      decided_pure (record { graphs = graphs; nexts = nexts; sizes = sizes; lines = lines; extent = extent }))))))))
+  decided_supplying unit until of = decided_planned (supplies.supplying unit until) (laws.supply unit until of)
 
   decided_planning : (bytes : List ℕ) (until : ℕ) → length bytes ≤ FILE_BYTES → IsDecided (planning bytes until)
   decided_planning bytes until few = decided_then _ _ (decided_translating bytes) (λ unit made.
@@ -56,7 +47,7 @@ module _ (laws : StepsDecide) where
       let one = (decided_planning bytes until few).one in
       (λ other stops'. one.stop other refusal stops' stops, λ done gives. one.apart done refusal gives stops)
 
-module _ (laws : StepsDecide) (files : Files) where
+module _ (laws : PlansDecide) (files : Files) where
   decided_compiling : (name : List ℕ) → IsDecided (compiling (Some files) name)
   decided_compiling name = decided_then _ _ (decided_reading files file.Program name) (λ bytes read. decided_translating laws bytes)
 
@@ -84,8 +75,8 @@ module _ (laws : StepsDecide) (files : Files) where
   decided_drawing : (name : List ℕ) → IsDecided (drawing (Some files) name)
   decided_drawing name = decided_then _ _ (decided_compiling name) (λ unit made.
       let of = compiled laws.of_text (Some files) name unit made in
-      decided_then _ _ (decided_graphing laws unit of) (λ graphs drawn.
-      decided_then _ _ (decided_costing laws unit of) (λ costs found.
+      decided_then _ _ (decided_planned (plan.graphing unit) (laws.graphs unit of)) (λ graphs drawn.
+      decided_then _ _ (decided_planned (plan.costing unit) (laws.costs unit of)) (λ costs found.
       decided_pure (Drawn unit graphs costs))))
 
   decided_trying : (seed until : ℕ) → IsDecided (trying seed until)

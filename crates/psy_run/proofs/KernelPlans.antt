@@ -7,12 +7,13 @@ use Rattle.psy_history.proofs.lemmas.NoInputs.{are_no_inputs}
 use Rattle.psy_kernel.specs.Progress.{Progress, booted, order, system}
 use Rattle.psy_kernel.specs.Texts.{run_text}
 use Rattle.psy_tree.specs.declared.unit.Unit.{Unit as Whole}
+use Rattle.psy_plan.specs.Supplies.{Supply}
 use Rattle.psy_run.specs.declared.refusal.File.{File}
 use Rattle.psy_run.specs.declared.refusal.Refusal.{Refusal}
 use Rattle.psy_run.specs.declared.refusal.Stop.{Stop}
 use Rattle.psy_run.specs.declared.refusal.Stop.TheVariants as stop
 use Rattle.psy_run.specs.declared.served.Served.TheVariants as served
-use Rattle.psy_run.specs.Answer.{Supply, planning, supplying, translating}
+use Rattle.psy_run.specs.Answer.{planning, supplying, translating}
 use Rattle.psy_run.specs.Courses.{Course, in_row}
 use Rattle.psy_run.specs.Outcome.{CanServe, Halts, halts_refused, halts_unread, halts_memory}
 use Rattle.psy_run.specs.Planned.{IsPlanned}
@@ -44,17 +45,8 @@ unfolding in_row
 unread_then c f first next file name (inl reads) = first file name reads
 unread_then c f first next file name (inr (x, gives, reads)) = next x file name reads
 
-unread_translating : (text : List ℕ) → Unread (translating text)
-unread_translating text = unread_then _ _ (λ file name reads. reads) (λ tokens. unread_then _ _ (λ file name reads. reads) (λ raw file name reads. reads))
-
-unread_supplying : (unit : Whole) (until : ℕ) → Unread (supplying unit until)
-unread_supplying unit until =
-    unread_then _ _ (λ file name reads. reads) (λ graphs. unread_then _ _ (λ file name reads. reads) (λ nexts. unread_then _ _ (λ file name reads. reads) (λ sizes.
-    unread_then _ _ (λ file name reads. reads) (λ lines. unread_then _ _ (λ file name reads. reads) (λ extent. unread_then _ _ (λ file name reads. reads) (λ few.
-    unread_then _ _ (λ file name reads. reads) (λ done file name reads. reads)))))))
-
 pub unread_planning : (text : List ℕ) (until : ℕ) → Unread (planning text until)
-unread_planning text until = unread_then _ _ (unread_translating text) (λ unit. unread_then _ _ (unread_supplying unit until) (λ supply file name reads. reads))
+unread_planning text until = unread_then _ _ (λ file name reads. reads) (λ unit. unread_then _ _ (λ file name reads. reads) (λ supply file name reads. reads))
 
 -- ---- why there is no kernel
 

@@ -5,10 +5,7 @@ mod AskingForms
 mod Courses
 mod CutLemmas
 mod DecidedAnswers
-mod DecidedPlans
 mod DecidedSteps
-mod Decisions
-mod ExtentLemmas
 mod FittingPlans
 mod KernelPlans
 mod KeptBounds
@@ -18,9 +15,6 @@ mod LongFiles
 mod MeaningText
 mod OwnLemmas
 mod PlanLemmas
-mod ProcessorDemands
-mod RefusalLemmas
-mod SupplyLemmas
 mod TextLemmas
 mod ToldLemmas
 mod TopLemmas

@@ -1,5 +1,5 @@
 -- The text of a run grows line by line, and date by date.
-use Rattle.std.proofs.Common.{◌≡◌, ◌≢◌, ◌∙◌, sym, ap, subst, refl, ℕ, zero, suc, ◌+◌, ◌*◌, ◌≤◌, nat_lt, List, [], ◌∷◌, ◌++◌, append_assoc, append-nil, length, slice_get, take, Some, Option, arith, inl, inr, add-one}
+use Rattle.std.proofs.Common.{◌≡◌, ◌≢◌, ◌∙◌, sym, ap, subst, refl, ℕ, zero, suc, ◌+◌, ◌*◌, ◌≤◌, nat_lt, List, [], ◌∷◌, ◌++◌, append_assoc, append-nil, length, slice_get, take, None, Some, Option, arith, inl, inr, add-one}
 use Rattle.std.specs.List.{flat_map, range_with_len}
 use Rattle.std.proofs.lemmas.Bool.{cond-false, le-ltb}
 use Rattle.std.proofs.lemmas.Bool.Decides.{nat_tests}
@@ -103,8 +103,8 @@ lines_told-after p whole =
     ∙ cond-false (nat_lt p.dates (system p).opening.dates) [] (lines_of (system p) p.dates) (le-ltb p.dates (system p).opening.dates (omega (arith, whole)))
 
 -- A run whose program, inputs and script are another's
-pub progress-parts : (p q : Progress) → p.plan ≡ q.plan → p.inputs ≡ q.inputs → p.script ≡ q.script → p.opening ≡ q.opening → p.units ≡ q.units → p ≡ record q { dates = p.dates; cycles = p.cycles; given = p.given }
-progress-parts p q plan inputs script opening units = λ i. record { plan = plan i; inputs = inputs i; script = script i; opening = opening i; dates = p.dates; cycles = p.cycles; units = units i; given = p.given }
+pub progress-parts : (p q : Progress) → p.plan ≡ q.plan → p.inputs ≡ q.inputs → p.script ≡ q.script → p.opening ≡ q.opening → p.units ≡ q.units → p.last ≡ None → p ≡ record q { dates = p.dates; cycles = p.cycles; given = p.given; last = None }
+progress-parts p q plan inputs script opening units last = λ i. record { plan = plan i; inputs = inputs i; script = script i; opening = opening i; dates = p.dates; cycles = p.cycles; units = units i; given = p.given; last = last i }
 
 -- The cycles done so far are before the next date
 pub cycles-after : (quantum dates cycles : ℕ) → cycles ≡ dates * quantum → cycles ≤ (dates + 1) * quantum

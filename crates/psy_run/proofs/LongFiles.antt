@@ -7,15 +7,14 @@ use Rattle.psy_make.specs.Text.{made_text}
 use Rattle.psy_tree.specs.declared.unit.Unit.{Unit as Whole}
 use Rattle.psy_run.specs.declared.refusal.File.{File}
 use Rattle.psy_run.specs.declared.refusal.Refusal.{Refusal}
-use Rattle.psy_run.specs.declared.refusal.Refusal.TheVariants.{Words, TooLong, Cells, Cycles}
+use Rattle.psy_run.specs.declared.refusal.Refusal.TheVariants.{Words, TooLong, Cycles}
 use Rattle.psy_run.specs.declared.refusal.Stop.{Stop}
 use Rattle.psy_run.specs.declared.refusal.Stop.TheVariants as stop
-use Rattle.psy_run.specs.Answer.{translating, supplying, following, trying}
+use Rattle.psy_run.specs.Answer.{translating, supplying, trying}
 use Rattle.psy_run.specs.Courses.{Course, in_row}
 use Rattle.psy_run.specs.Outcome.{Halts, halts_refused, halts_unread, halts_memory, Says, TookLimit, IsPastLimit}
 use Rattle.psy_run.specs.Refusals.{status_of, line_of, file_name}
-use Rattle.psy_run.specs.Extents.{length_of as top_of}
-use Rattle.psy_run.specs.Steps.{lexing, parsing, graphing, sizing, rating, extending, windowing, demanding, stating, directing, pacing}
+use Rattle.psy_run.specs.Steps.{graphing, stating, directing, pacing}
 
 -- ---- courses that read no file
 
@@ -28,9 +27,6 @@ unfolding in_row
 never_long_then c f first later file (inl stops) = first file stops
 never_long_then c f first later file (inr (x, gives, stops)) = later x file stops
 
-not_cells : (file : File) → TooLong file ≡ Cells → ⊥
-not_cells file e = absurd cc
-
 not_cycles : (file : File) → TooLong file ≡ Cycles → ⊥
 not_cycles file e = absurd cc
 
@@ -38,20 +34,13 @@ pub not_words : (file : File) → Words ≡ TooLong file → ⊥
 not_words file e = absurd cc
 
 pub translating_never_long : (bytes : List ℕ) → IsNeverLong (translating bytes)
-translating_never_long bytes = never_long_then (lexing bytes) _ (λ file stops. stops) (λ tokens. never_long_then (parsing tokens) _ (λ file stops. stops) (λ raw file stops. stops))
+translating_never_long bytes file stops = stops
 
 pub graphing_never_long : (unit : Whole) → IsNeverLong (graphing unit)
 graphing_never_long unit file stops = stops
 
 pub supplying_never_long : (unit : Whole) (until : ℕ) → IsNeverLong (supplying unit until)
-supplying_never_long unit until =
-    never_long_then (graphing unit) _ (graphing_never_long unit)
-    (λ graphs. never_long_then (following unit) _ (λ file stops. stops)
-    (λ nexts. never_long_then (sizing unit nexts) _ (λ file stops. stops)
-    (λ sizes. never_long_then (rating graphs) _ (λ file stops. stops)
-    (λ lines. never_long_then (extending unit lines until) _ (λ file stops. stops)
-    (λ extent. never_long_then (windowing graphs (top_of extent)) _ (λ file stops. not_cells file stops.0)
-    (λ few. never_long_then (demanding unit graphs (top_of extent)) _ (λ file stops. stops) (λ done file stops. stops)))))))
+supplying_never_long unit until file stops = stops
 
 pub pacing_never_long : (unit : Whole) (until : ℕ) → IsNeverLong (pacing unit until)
 pacing_never_long unit until file stops = not_cycles file stops.0

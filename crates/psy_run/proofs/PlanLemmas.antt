@@ -20,8 +20,7 @@ use Rattle.psy_tree.specs.Parts.{agent_at, homes}
 use Rattle.psy_meaning.specs.Graph.{IsGraph}
 use Rattle.psy_meaning.specs.Timing.{Timing, timing_of}
 use Rattle.psy_tree.specs.declared.unit.Unit.{Unit as Whole}
-use Rattle.psy_run.specs.Answer.{Supply}
-use Rattle.psy_run.proofs.SupplyLemmas.{IsSupply}
+use Rattle.psy_plan.specs.Supplies.{IsSupply, Supply}
 
 -- ---- a plan's graphs
 

@@ -12,11 +12,12 @@ use Rattle.psy_script.specs.declared.fault.LineKind.{LineKind}
 use Rattle.psy_script.specs.declared.fault.TextFault.{TextFault}
 use Rattle.psy_script.specs.declared.fault.TextFault.TheVariants as text
 use Rattle.psy_tree.specs.declared.unit.Unit.{Unit as Whole}
+use Rattle.psy_plan.specs.Supplies.{Supply}
 use Rattle.psy_run.specs.declared.refusal.File.{File}
 use Rattle.psy_run.specs.declared.refusal.Refusal.TheVariants.{Line, Lines}
 use Rattle.psy_run.specs.declared.refusal.Stop.{Stop}
 use Rattle.psy_run.specs.declared.served.Served.TheVariants as served
-use Rattle.psy_run.specs.Answer.{Supply, compiling, translating, supplying, listing, scripting, running, trying}
+use Rattle.psy_run.specs.Answer.{compiling, translating, supplying, listing, scripting, running, trying}
 use Rattle.psy_run.specs.Courses.{Course}
 use Rattle.psy_run.specs.Outcome.{CanServe, Halts, halts_refused, halts_unread, halts_memory}
 use Rattle.psy_run.specs.Planned.{IsPlanned}

@@ -11,21 +11,22 @@ use Rattle.psy_kernel.specs.Progress.{Progress, stage_of}
 use Rattle.psy_log.specs.Forms.{read_line}
 use Rattle.psy_make.specs.Text.{made_text}
 use Rattle.psy_tree.specs.declared.unit.Unit.{Unit as Whole}
+use Rattle.psy_plan.specs.declared.refusal.Refusal.{Refusal as Cause}
+use Rattle.psy_plan.specs.declared.refusal.Refusal.TheVariants.{Lexical, Syntax, Deep, Rule, Many, Nodes, Edges, Ring, Queue, Cells, Infeasible}
 use Rattle.psy_run.specs.declared.refusal.File.{File}
 use Rattle.psy_run.specs.declared.refusal.File.TheVariants.{Program, Inputs, Script}
 use Rattle.psy_run.specs.declared.refusal.Refusal.{Refusal}
-use Rattle.psy_run.specs.declared.refusal.Refusal.TheVariants.{Words, TooLong, Lexical, Syntax, Deep, Rule, Many, Nodes, Edges, Ring, Queue, Cells, Infeasible, Line, Lines, Cycles}
+use Rattle.psy_run.specs.declared.refusal.Refusal.TheVariants.{Words, TooLong, Unplanned, Line, Lines, Cycles}
 use Rattle.psy_run.specs.declared.refusal.Stop.{Stop}
 use Rattle.psy_run.specs.declared.refusal.Stop.TheVariants as stop
-use Rattle.psy_run.specs.Answer.{Answers, refused, served, translating, compiling, supplying, following, listing, scripting, serving, answering}
+use Rattle.psy_run.specs.Answer.{Answers, refused, served, translating, compiling, supplying, listing, scripting, serving, answering}
 use Rattle.psy_run.specs.Asked.{Command, Asks, AskNothing, Run, Check, Graph, Make, Trial}
 use Rattle.psy_run.specs.Bounds.{IsBounded}
 use Rattle.psy_run.specs.Courses.{Course, in_row}
 use Rattle.psy_run.specs.Outcome.{Halts, halts_refused, halts_unread, halts_memory, Seen, coming, IsUnread, MayAnswer, may_refuse, may_miss, may_serve, Ends, ends_memory, ends_said, ends_cut, Says}
 use Rattle.psy_run.specs.Refusals.{status_of, line_of, file_name}
 use Rattle.psy_run.specs.Services.{Service, Ran, Checked, Drawn, Made, Tried, HasRun, Leaves, no_inputs, no_script, text_of}
-use Rattle.psy_run.specs.Extents.{length_of as top_of}
-use Rattle.psy_run.specs.Steps.{reading, lexing, parsing, graphing, sizing, costing, rating, extending, windowing, demanding, pacing}
+use Rattle.psy_run.specs.Steps.{reading, graphing, costing, pacing}
 
 -- ---- the statuses of refusals
 
@@ -46,20 +47,23 @@ six refusal = of_other refusal 6 (λ e. absurd (omega arith)) (λ e. absurd (ome
 seven : (refusal : Refusal) → IsStatus refusal 7
 seven refusal = of_other refusal 7 (λ e. absurd (omega arith)) (λ e. absurd (omega arith)) (λ e. absurd (omega arith)) (λ e. absurd (omega arith)) (λ e. absurd (omega arith))
 
+planned_status : (cause : Cause) → IsStatus (Unplanned cause) (status_of (Unplanned cause))
+planned_status (Lexical kind place) = one (Unplanned (Lexical kind place))
+planned_status (Syntax token) = one (Unplanned (Syntax token))
+planned_status (Deep token) = one (Unplanned (Deep token))
+planned_status (Rule kind token) = one (Unplanned (Rule kind token))
+planned_status (Many count) = seven (Unplanned (Many count))
+planned_status Nodes = seven (Unplanned Nodes)
+planned_status Edges = seven (Unplanned Edges)
+planned_status Ring = seven (Unplanned Ring)
+planned_status Queue = seven (Unplanned Queue)
+planned_status Cells = seven (Unplanned Cells)
+planned_status (Infeasible length demand supply processor) = five (Unplanned (Infeasible length demand supply processor))
+
 is_status : (refusal : Refusal) → IsStatus refusal (status_of refusal)
 is_status Words = of_words
 is_status (TooLong file) = seven (TooLong file)
-is_status (Lexical kind place) = one (Lexical kind place)
-is_status (Syntax token) = one (Syntax token)
-is_status (Deep token) = one (Deep token)
-is_status (Rule kind token) = one (Rule kind token)
-is_status (Many count) = seven (Many count)
-is_status Nodes = seven Nodes
-is_status Edges = seven Edges
-is_status Ring = seven Ring
-is_status Queue = seven Queue
-is_status Cells = seven Cells
-is_status (Infeasible length demand supply processor) = five (Infeasible length demand supply processor)
+is_status (Unplanned cause) = planned_status cause
 is_status (Line file kind line) = six (Line file kind line)
 is_status Lines = seven Lines
 is_status Cycles = seven Cycles
@@ -170,20 +174,13 @@ apart : (refusal : Refusal) → status_of refusal ≢ 2 → Words ≡ refusal �
 apart refusal two e = two (sym (ap status_of e))
 
 translating_never : (bytes : List ℕ) → Never (translating bytes)
-translating_never bytes = never_then (lexing bytes) _ (λ stops. stops) (λ tokens. never_then (parsing tokens) _ (λ stops. stops) (λ raw stops. stops))
+translating_never bytes stops = stops
 
 compiling_never : (files : Option Files) (name : List ℕ) → Never (compiling files name)
 compiling_never files name = never_then (reading files Program name) _ (λ stops. apart (TooLong Program) (λ e. absurd (omega arith)) stops.0) translating_never
 
 supplying_never : (unit : Whole) (until : ℕ) → Never (supplying unit until)
-supplying_never unit until =
-    never_then (graphing unit) _ (λ stops. stops)
-    (λ graphs. never_then (following unit) _ (λ stops. stops)
-    (λ nexts. never_then (sizing unit nexts) _ (λ stops. stops)
-    (λ sizes. never_then (rating graphs) _ (λ stops. stops)
-    (λ lines. never_then (extending unit lines until) _ (λ stops. stops)
-    (λ extent. never_then (windowing graphs (top_of extent)) _ (λ stops. apart Cells (λ e. absurd (omega arith)) stops.0)
-    (λ done. never_then (demanding unit graphs (top_of extent)) _ (λ stops. stops) (λ again stops. stops)))))))
+supplying_never unit until stops = stops
 
 listing_never : (files : Option Files) (unit : Whole) (inputs : Option (List ℕ)) → Never (listing files unit inputs)
 listing_never files unit None = λ stops. stops

@@ -1,32 +1,25 @@
 -- The defined answer: the status and the text that belong to the words and to the files that are told.
 use Rattle.std.specs.Prelude.{ℕ, List, Option, None, Some, ℤ}
-use Rattle.psy_base.specs.declared.sizes.Sizes.{Sizes}
 use Rattle.psy_door.specs.Files.{Files}
 use Rattle.psy_tree.specs.declared.unit.Unit.{Unit as Whole}
-use Rattle.psy_meaning.specs.Flow.{AreAllNexts}
-use Rattle.psy_graph.specs.declared.graph.Graph.{Graph}
 use Rattle.psy_history.specs.declared.told.Script.{Script}
 use Rattle.psy_make.specs.Text.{made_text}
-use Rattle.psy_rate.specs.declared.line.Rate.{Rate}
-use Rattle.psy_run.specs.declared.extent.Extent.{Extent}
+use Rattle.psy_plan.specs.Programs as programs
+use Rattle.psy_plan.specs.Supplies as supplies
+use Rattle.psy_plan.specs.Supplies.{Supply}
 use Rattle.psy_run.specs.declared.refusal.File.TheVariants as file
 use Rattle.psy_run.specs.declared.refusal.Refusal.{Refusal}
 use Rattle.psy_run.specs.Asked.{Command, Run, Check, Graph as Draw, Make, Trial}
-use Rattle.psy_run.specs.Courses.{Course, step, pure, ◌>>=◌}
-use Rattle.psy_run.specs.Extents.{length_of}
+use Rattle.psy_run.specs.Courses.{Course, planned, pure, ◌>>=◌}
 use Rattle.psy_run.specs.Refusals.{status_of, line_of}
 use Rattle.psy_run.specs.Services.{Service, Ran, Checked, Drawn, Made, Tried, no_inputs, no_script, text_of}
-use Rattle.psy_run.specs.Steps.{asking, reading, lexing, parsing, resolving, graphing, sizing, costing, rating, extending, windowing, demanding, pacing}
-use Rattle.psy_run.specs.Steps.{stating, directing}
+use Rattle.psy_run.specs.Steps.{asking, reading, graphing, costing, pacing, stating, directing}
 
 -- ---- the commands
 
 -- The program of a text
 abbrev pub translating : List ℕ → Course Whole
-translating bytes = do
-  tokens ← lexing bytes
-  raw ← parsing tokens
-  resolving raw
+translating bytes = planned (programs.translating bytes)
 
 -- The program in a file
 abbrev pub compiling : Option Files → List ℕ → Course Whole
@@ -34,30 +27,9 @@ compiling files name = do
   bytes ← reading files file.Program name
   translating bytes
 
--- By agent, the points that may follow each of its points: they are there for each program.
-abbrev pub following : Whole → Course (List (List (List ℕ)))
-following unit = step (AreAllNexts unit) (λ refusal. ⊥)
-
--- What a program that its processors can run has: its graphs, the points that follow each of its points, the sizes of its buffers, the lines above
--- its agents' demands, and up to which length their demand was looked at
-pub record Supply : Type 0 where
-  pub graphs : List Graph
-  pub nexts : List (List (List ℕ))
-  pub sizes : Sizes
-  pub lines : List Rate
-  pub extent : Extent
-
--- That, where each processor can supply what its agents may demand up to this date
+-- What a program needs that its processors can run, where each of them can supply what its agents may demand up to this date
 abbrev pub supplying : Whole → ℕ → Course Supply
-supplying unit until = do
-  graphs ← graphing unit
-  nexts ← following unit
-  sizes ← sizing unit nexts
-  lines ← rating graphs
-  extent ← extending unit lines until
-  _ ← windowing graphs (length_of extent)
-  _ ← demanding unit graphs (length_of extent)
-  pure (record { graphs = graphs; nexts = nexts; sizes = sizes; lines = lines; extent = extent })
+supplying unit until = planned (supplies.supplying unit until)
 
 -- By variable, the lists that the inputs file states; without a file there is none.
 abbrev pub listing : Option Files → Whole → Option (List ℕ) → Course (List (List ℤ))

@@ -2,7 +2,6 @@
 use Rattle.std.specs.Prelude.{◌≡◌, ℕ, ◌+◌, ◌*◌, ◌<◌, ◌≤◌, List, length, Some, get_or, ⊤}
 use Rattle.std.specs.List.{Contains}
 use Rattle.psy_base.specs.declared.sizes.Sizes.{Sizes}
-use Rattle.psy_tree.specs.Parts.{homes}
 use Rattle.psy_tree.specs.declared.unit.Unit.{Unit as Whole}
 use Rattle.psy_history.specs.Actions.{Action, System}
 use Rattle.psy_history.specs.History.{history}
@@ -13,10 +12,8 @@ use Rattle.psy_history.specs.Scripts.{order_of}
 use Rattle.psy_graph.specs.declared.graph.Graph.{Graph}
 use Rattle.psy_graph.specs.Graphs.{AreGraphs}
 use Rattle.psy_demand.specs.Criterion.{edges_of}
-use Rattle.psy_meaning.specs.Demand.{AreFeasible}
 use Rattle.psy_rate.specs.Lines.{AreRates}
-use Rattle.psy_run.specs.declared.extent.Extent.{Extent}
-use Rattle.psy_run.specs.declared.extent.Extent.TheVariants.{Horizon, LastDate}
+use Rattle.psy_plan.specs.Supplies.{IsMet}
 use Rattle.psy_run.specs.Services.{Service, Ran, Checked, Tried, meaning_of, no_inputs, no_script}
 
 -- A run up to a date keeps its bounds.
@@ -38,12 +35,6 @@ abbrev pub IsBounded : Service → Type 0
 IsBounded (Ran unit nexts sizes until inputs script) = KeepsBounds (meaning_of unit nexts inputs script) (order_of unit script) sizes until
 IsBounded (Tried unit nexts sizes until) = KeepsBounds (meaning_of unit nexts (no_inputs unit) no_script) (order_of unit no_script) sizes until
 IsBounded service = ⊤
-
--- What the verdict of a check tells of the demand: where it was looked at up to the horizon, each processor supplies it over every length, whatever
--- the last date; else over each length up to that date.
-abbrev pub IsMet : Whole → List Graph → Extent → Type 0
-IsMet unit graphs (Horizon length) = (top : ℕ) → AreFeasible (homes unit) (edges_of graphs) unit.quantum top
-IsMet unit graphs (LastDate date) = AreFeasible (homes unit) (edges_of graphs) unit.quantum date
 
 -- What a check tells is borne out: its lines are those of the agents' graphs, and their demand is met.
 abbrev pub IsBorneOut : Service → Type 0

@@ -5,7 +5,6 @@ pub mod Asked
 pub mod Bounds
 pub mod Courses
 pub mod Cuts
-pub mod Extents
 pub mod Outcome
 pub mod OwnLines
 pub mod Planned
@@ -15,4 +14,3 @@ pub mod Services
 pub mod Steps
 pub mod Supplies
 pub mod Texts
-pub mod Tables

@@ -11,7 +11,7 @@ use Rattle.psy_kernel.specs.Progress.{Progress, lines_told}
 use Rattle.psy_history.specs.Scripts.{order_of, stalls_of}
 use Rattle.psy_kernel.specs.Texts.{run_text, summary_of, text_of as lines_text}
 use Rattle.psy_rate.specs.declared.line.Rate.{Rate}
-use Rattle.psy_run.specs.declared.extent.Extent.{Extent}
+use Rattle.psy_plan.specs.declared.extent.Extent.{Extent}
 use Rattle.psy_run.specs.declared.served.Served.{Served}
 use Rattle.psy_run.specs.declared.served.Served.TheVariants as served
 use Rattle.psy_run.specs.Planned.{IsPlanned}

@@ -11,8 +11,8 @@ use Rattle.psy_graph.specs.declared.graph.Graph.{Graph}
 use Rattle.psy_graph.specs.declared.graph.Node.{Node}
 use Rattle.psy_rate.specs.declared.line.Rate.{Rate}
 use Rattle.psy_kernel.specs.Texts.{text_of}
-use Rattle.psy_run.specs.declared.extent.Extent.{Extent}
-use Rattle.psy_run.specs.declared.extent.Extent.TheVariants.{Horizon, LastDate}
+use Rattle.psy_plan.specs.declared.extent.Extent.{Extent}
+use Rattle.psy_plan.specs.declared.extent.Extent.TheVariants.{Horizon, LastDate}
 
 -- ---- check
 

@@ -22,13 +22,13 @@ use crate::served::Served;
 use crate::steps::{compile, translate};
 use crate::supply::{Supplied, graphs, supply};
 use crate::told::{inputs_of, nothing_said, pace, script_of};
-use crate::ways::with_ways;
 use psy_base::Memory;
 use psy_door::Shelf;
 use psy_history::{Inputs, Script, no_lists};
 use psy_kernel::Kernel;
 use psy_make::laws::short;
 use psy_make::make;
+use psy_plan::with_ways;
 use psy_tree::Unit;
 use std::alloc::Global;
 

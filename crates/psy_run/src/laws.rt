@@ -1,8 +1,7 @@
 //! Laws of the defined answer: words have one, and no other; of runs: they keep their bounds; and of checks: what they tell is borne out.
-ghost use Rattle.std.specs.Prelude.{◌≡◌, ℕ, ◌+◌, ◌*◌, ◌≤◌, List, Option, Some, ℤ, length};
+ghost use Rattle.std.specs.Prelude.{◌≡◌, ℕ, ◌+◌, ◌≤◌, List, Option, Some, ℤ, length};
 ghost use Rattle.psy_base.specs.declared.limits.TheConstants.{FILE_BYTES};
 ghost use Rattle.psy_door.specs.Files.{Files, bytes_under};
-ghost use Rattle.psy_demand.specs.Criterion.{edges_of};
 ghost use Rattle.psy_dates.specs.declared.plan.Plan.{Plan};
 ghost use Rattle.psy_dates.specs.Plans.{IsPlan};
 ghost use Rattle.psy_base.specs.declared.sizes.Sizes.{Sizes};
@@ -16,39 +15,26 @@ ghost use Rattle.psy_history.specs.Feeding.{OverranAlike, Reaches};
 ghost use Rattle.psy_history.specs.declared.told.Script.{Script};
 ghost use Rattle.psy_history.specs.Scripts.{IsScript, order_of};
 ghost use Rattle.psy_run.specs.Accepted.{IsRunnable};
-ghost use Rattle.psy_graph.specs.declared.graph.Graph.{Graph};
-ghost use Rattle.psy_graph.specs.Graphs.{AreGraphs};
-ghost use Rattle.psy_meaning.specs.Demand.{AreFeasible, IsOverloadOn};
-ghost use Rattle.psy_tree.specs.Parts.{homes};
 ghost use Rattle.psy_meaning.specs.ListedWays.{AreWaysOf};
-ghost use Rattle.psy_rate.specs.declared.line.Rate.{Rate};
-ghost use Rattle.psy_rate.specs.Lines.{AreRates};
-ghost use Rattle.psy_run.specs.declared.extent.Extent.{Extent};
 ghost use Rattle.psy_run.specs.declared.refusal.Refusal.{Refusal as Cause};
-ghost use Rattle.psy_run.specs.declared.refusal.Refusal.TheVariants.{Infeasible};
-ghost use Rattle.psy_run.specs.Answer.{Answers, answering, planning, supplying};
+ghost use Rattle.psy_run.specs.Answer.{Answers, answering, planning};
 ghost use Rattle.psy_run.specs.Asked.{Asks, Check, Run};
-ghost use Rattle.psy_run.specs.Bounds.{IsBounded, IsBorneOut, IsMet, KeepsBounds};
-ghost use Rattle.psy_run.specs.Extents.{IsExtent, length_of};
+ghost use Rattle.psy_run.specs.Bounds.{IsBounded, IsBorneOut, KeepsBounds};
 ghost use Rattle.psy_run.specs.OwnLines.{own_text};
 ghost use Rattle.psy_run.specs.Planned.{IsStatedPlan};
 ghost use Rattle.psy_run.specs.Services.{Service, Ran, meaning_of, text_of};
 
-use psy_flow::laws::{costs, listed, nexts, one_list};
+use psy_flow::laws::{listed, one_list};
 use psy_gen::laws::alike as generated;
 use psy_graph::laws::one_graph;
 use psy_history::laws::{
     alike, compiled, isolation as histories, on_time, one_of_them, queue_sizes, regular, ring_sizes,
 };
 use psy_make::laws::short;
-use psy_meaning::laws::{of_text, sound};
-use psy_parse::laws::one_tree;
-use psy_rate::laws::{always, horizons, rates};
-use psy_rules::laws::one_verdict;
+use psy_meaning::laws::sound;
+use psy_plan::laws::{one_plan, programs, supplies};
 use psy_script::laws::lawful;
-use psy_sizes::laws::{listed_sizes, one_size};
-use psy_token::laws::one_reading;
-use psy_window::laws::greatest;
+use psy_sizes::laws::listed_sizes;
 
 /// Words have one answer, where files are told, and no other; and the program of a text that is refused is refused in one way, and not planned.
 pub fn one_answer()
@@ -58,18 +44,9 @@ pub fn one_answer()
     ensures refused { (text : List ℕ) (until : ℕ) (refusal : Cause) → length text ≤ FILE_BYTES → (planning text until).stops refusal
         → ((other : Cause) → (planning text until).stops other → other ≡ refusal) × ((done : Service) → (planning text until).gives done → ⊥) }
 {
-    one_reading();
-    one_tree();
-    one_verdict();
-    of_text();
+    one_plan();
+    programs();
     short();
-    one_graph();
-    costs();
-    nexts();
-    one_size();
-    greatest();
-    rates();
-    horizons();
 }
 
 /// What psyc compiles and plans fits: a plan by the statements of its program is one that a kernel runs, whose code goes well by the lists of
@@ -102,7 +79,7 @@ pub fn bounds()
 pub fn bounded()
     ensures { (words : List (List ℕ)) (files : Option Files) (done : Service) → (answering words files).gives done → IsBounded done }
 {
-    of_text();
+    programs();
     sound();
     short();
     generated();
@@ -110,38 +87,15 @@ pub fn bounded()
     one_of_them();
     lawful();
     bounds();
-    extents();
-}
-
-/// Up to which length the demand is looked at: what is supplied up to it is supplied up to the last date, and over every length where it is the
-/// horizon. The least length over which a processor can't supply the demand, and the least such processor, are the same up to both, and they are
-/// what a refusal tells.
-pub fn extents()
-    ensures met { (unit : Whole) (graphs : List Graph) (lines : List Rate) (until : ℕ) (extent : Extent) → IsOfText unit → AreGraphs unit graphs
-        → AreRates (edges_of graphs) lines → IsExtent unit.quantum (homes unit) lines until extent
-        → AreFeasible (homes unit) (edges_of graphs) unit.quantum (length_of extent)
-        → AreFeasible (homes unit) (edges_of graphs) unit.quantum until × IsMet unit graphs extent }
-    ensures passed { (unit : Whole) (graphs : List Graph) (lines : List Rate) (until length processor demand : ℕ) (extent : Extent) → IsOfText unit
-        → AreGraphs unit graphs → AreRates (edges_of graphs) lines → IsExtent unit.quantum (homes unit) lines until extent
-        → IsOverloadOn (homes unit) (edges_of graphs) unit.quantum until length processor demand
-        → IsOverloadOn (homes unit) (edges_of graphs) unit.quantum (length_of extent) length processor demand }
-    ensures refused { (unit : Whole) (until length demand supply processor : ℕ) → IsOfText unit
-        → (supplying unit until).stops (Infeasible length demand supply processor)
-        → (graphs : List Graph) × AreGraphs unit graphs × IsOverloadOn (homes unit) (edges_of graphs) unit.quantum until length processor demand
-        × (supply ≡ unit.quantum * length) }
-{
-    always();
-    rates();
-    one_graph();
-    greatest();
+    supplies();
 }
 
 /// What a check tells is borne out: its lines are those of the agents' graphs, and their demand is met, over every length where it says so.
 pub fn borne_out()
     ensures { (words : List (List ℕ)) (files : Option Files) (done : Service) → (answering words files).gives done → IsBorneOut done }
 {
-    of_text();
-    extents();
+    programs();
+    supplies();
 }
 
 /// The headline: where a check of a program up to a date is answered by status 0, each run of it up to that date is, whatever the inputs and
@@ -153,9 +107,9 @@ pub fn accepted()
         → Asks ran (Run again until inputs script) → bytes_under others again ≡ bytes_under files program
         → IsRunnable ran others again until inputs script }
 {
-    of_text();
+    programs();
     bounded();
-    extents();
+    supplies();
 }
 
 /// Isolation, in bytes: two runs of a program with the same inputs, each with stalls of its own. Where, of each agent that reaches another,

@@ -1,16 +1,14 @@
 //! The top call of psyc: from words and the bytes of a program to a status and a text.
-//! It may know what reads and judges texts, the door and the kernel, through their public calls.
+//! It may know what plans programs, what reads inputs and scripts, the door and the kernel, through their public calls.
 #![tactic(auto)]
 
 mod asked;
 mod clean;
 mod commands;
 mod costs;
-mod extent;
 mod kernels;
 pub mod laws;
 mod plan;
-mod rates;
 mod refusal;
 mod run;
 mod served;
@@ -19,7 +17,6 @@ mod supply;
 mod texts;
 mod told;
 mod top;
-mod ways;
 
 pub use clean::psyc_over_clean;
 pub use kernels::{kernel_asked, kernel_of};

@@ -8,11 +8,12 @@ ghost use Rattle.psy_run.specs.Answer.{supplying};
 ghost use Rattle.psy_run.specs.Planned.{IsPlanned};
 ghost use Rattle.psy_run.specs.Supplies.{supply_of};
 
-use crate::laws::{extents, fits};
+use crate::laws::fits;
 use crate::supply::Supplied;
 use psy_dates::Plan;
 use psy_graph::laws::one_graph;
 use psy_history::laws::one_of_them;
+use psy_plan::laws::supplies;
 use psy_tree::Unit;
 
 /// The plan of a program that can be run, and whose demand its processors can supply up to a date.
@@ -29,7 +30,7 @@ pub fn plan_of(unit: Unit, supply: Supplied, until: u32) -> Plan
 {
     one_graph();
     one_of_them();
-    extents();
+    supplies();
     fits();
     let ways = supply.ways;
     Plan {

@@ -1,8 +1,8 @@
 //! What the commands come to.
-use crate::extent::Extent;
 use psy_base::{Items, Sizes};
 use psy_graph::Graph;
 use psy_kernel::Kernel;
+use psy_plan::Extent;
 use psy_rate::Rate;
 use psy_tree::Unit;
 

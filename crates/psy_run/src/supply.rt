@@ -1,35 +1,23 @@
-//! The steps on the action graphs of a program: the sizes of its buffers, and whether its processors can supply what its agents may demand.
-ghost use Rattle.std.specs.Prelude.{◌≡◌, ℕ, ◌≤◌, List, length, IfOk, IfErr};
+//! What a run of a program needs, planned.
+ghost use Rattle.std.specs.Prelude.{ℕ, List, IfOk, IfErr};
 ghost use Rattle.std.specs.List.{All};
-ghost use Rattle.psy_base.specs.declared.limits.TheConstants.{AGENTS};
-ghost use Rattle.psy_demand.specs.Criterion.{IsDrawn};
 ghost use Rattle.psy_graph.specs.declared.graph.Graph.{Graph as Drawn};
-ghost use Rattle.psy_graph.specs.Graphs.{AreGraphs, IsSmall};
+ghost use Rattle.psy_graph.specs.Graphs.{IsSmall};
 ghost use Rattle.psy_meaning.specs.Alike.{ActsAlike};
 ghost use Rattle.psy_meaning.specs.ListedWays.{AreWaysOf};
 ghost use Rattle.psy_meaning.specs.Units.{IsOfText};
-ghost use Rattle.psy_tree.specs.Parts.{homes as homes_by};
 ghost use Rattle.psy_run.specs.Answer.{supplying};
 ghost use Rattle.psy_run.specs.Outcome.{Halts};
-ghost use Rattle.psy_run.specs.Supplies.{meeting, supply_of};
-ghost use Rattle.psy_run.specs.Steps.{graphing, sizing};
+ghost use Rattle.psy_run.specs.Steps.{graphing};
+ghost use Rattle.psy_run.specs.Supplies.{supply_of};
 
-use crate::extent::{Extent, extent_of};
-use crate::rates::lines_of;
-use crate::refusal::{Refusal, Stop};
-use crate::ways::with_ways;
+use crate::refusal::{Stop, stopped};
 use psy_base::{Items, Sizes, Ways};
 use psy_code::Code;
-use psy_demand::{Finding, criterion};
-use psy_flow::laws::listed;
-use psy_graph::laws::one_graph;
-use psy_graph::{Graph, GraphFault, build_by};
-use psy_history::homes_of;
+use psy_graph::Graph;
+use psy_plan::{Extent, plan, with_ways};
 use psy_rate::Rate;
-use psy_sizes::laws::listed_sizes;
-use psy_sizes::{SizeFault, sizes_by};
 use psy_tree::Unit;
-use psy_window::WindowFault;
 use std::alloc::Global;
 
 /// What a program that its processors can run needs: its code, the ways of its actions, and the sizes of its buffers; with the lines above the
@@ -48,82 +36,12 @@ pub fn graphs(alloc: Global, unit: &Unit, ways: &Ways) -> Result<Items<Graph>, S
     requires text { IsOfText unit.now }
     requires ways { AreWaysOf unit.now ways.now }
     ensures ok { IfOk result (λ graphs. (graphing unit.now).gives graphs) }
-    ensures edges { IfOk result (All IsDrawn) }
     ensures small { IfOk result (All IsSmall) }
     ensures err { (failed : List ℕ) (before after : ℕ) → IfErr result (Halts (graphing unit.now) failed before after) }
 {
-    listed();
-    one_graph();
-    match build_by(alloc, unit, ways) {
+    match psy_plan::graphs(alloc, unit, ways) {
         Ok(graphs) => Ok(graphs),
-        Err(GraphFault::Nodes(_)) => Err(Stop::Refused(Refusal::Nodes)),
-        Err(GraphFault::Edges(_)) => Err(Stop::Refused(Refusal::Edges)),
-        Err(GraphFault::Memory) => Err(Stop::Memory),
-    }
-}
-
-// The sizes of a program's buffers, by the ways of its actions and its graphs.
-fn sizes(alloc: Global, unit: &Unit, graphs: &Items<Graph>, ways: &Ways) -> Result<Sizes, Stop>
-    requires text { IsOfText unit.now }
-    requires ways { AreWaysOf unit.now ways.now }
-    requires graphs { AreGraphs unit.now graphs.now }
-    ensures ok { IfOk result (λ sizes. (sizing unit.now ways.now.nexts).gives sizes) }
-    ensures err { (failed : List ℕ) (before after : ℕ) → IfErr result (Halts (sizing unit.now ways.now.nexts) failed before after) }
-{
-    listed();
-    one_graph();
-    listed_sizes();
-    match sizes_by(alloc, unit, graphs.as_slice(), ways) {
-        Ok(sizes) => Ok(sizes),
-        Err(SizeFault::LargeRing(_)) => Err(Stop::Refused(Refusal::Ring)),
-        Err(SizeFault::Cells(_)) => Err(Stop::Refused(Refusal::Cells)),
-        Err(SizeFault::LargeQueue(_)) => Err(Stop::Refused(Refusal::Queue)),
-        Err(SizeFault::Memory) => Err(Stop::Memory),
-    }
-}
-
-// Whether each processor can supply the demand of its agents over each length up to this one.
-fn demand(
-    alloc: Global,
-    unit: &Unit,
-    graphs: &Items<Graph>,
-    homes: &Items<u32>,
-    top: u32,
-) -> Result<(), Stop>
-    requires text { IsOfText unit.now }
-    requires graphs { AreGraphs unit.now graphs.now }
-    requires homes { homes.now ≡ homes_by unit.now }
-    requires edges { All IsDrawn graphs.now }
-    requires small { All IsSmall graphs.now }
-    requires few { length graphs.now ≤ AGENTS }
-    ensures ok { IfOk result (λ done. (meeting unit.now graphs.now top).gives done) }
-    ensures err { (failed : List ℕ) (before after : ℕ) → IfErr result (Halts (meeting unit.now graphs.now top) failed before after) }
-{
-    match criterion(
-        alloc,
-        graphs.as_slice(),
-        homes.as_slice(),
-        unit.quantum,
-        top,
-    ) {
-        Ok(Finding::Feasible) => Ok(()),
-        Ok(
-            Finding::Overload {
-                length,
-                processor,
-                demand,
-            },
-        ) => {
-            let supply = u64::from(unit.quantum) * u64::from(length);
-            Err(Stop::Refused(Refusal::Infeasible {
-                length,
-                demand,
-                supply,
-                processor,
-            }))
-        }
-        Err(WindowFault::Cells) => Err(Stop::Refused(Refusal::Cells)),
-        Err(WindowFault::Memory) => Err(Stop::Memory),
+        Err(stop) => Err(stopped(stop)),
     }
 }
 
@@ -138,18 +56,14 @@ pub fn supply(alloc: Global, unit: &Unit, until: u32) -> Result<Supplied, Stop>
     ensures err { (failed : List ℕ) (before after : ℕ) → IfErr result (Halts (supplying unit.now until) failed before after) }
 {
     let coded = with_ways(alloc, unit)?;
-    let graphs = graphs(alloc, unit, &coded.ways)?;
-    let sizes = sizes(alloc, unit, &graphs, &coded.ways)?;
-    let lines = lines_of(alloc, &graphs)?;
-    let homes = homes_of(alloc, unit)?;
-    let extent = extent_of(alloc, &homes, &lines, unit.quantum, until)?;
-    let top = extent.length();
-    demand(alloc, unit, &graphs, &homes, top)?;
-    Ok(Supplied {
-        code: coded.code,
-        ways: coded.ways,
-        sizes,
-        lines,
-        extent,
-    })
+    match plan(alloc, unit, &coded.ways, until) {
+        Ok(found) => Ok(Supplied {
+            code: coded.code,
+            ways: coded.ways,
+            sizes: found.sizes,
+            lines: found.lines,
+            extent: found.extent,
+        }),
+        Err(stop) => Err(stopped(stop)),
+    }
 }

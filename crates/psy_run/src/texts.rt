@@ -11,11 +11,11 @@ ghost use Rattle.psy_run.specs.Cuts.{IsCutAt, Wrote};
 ghost use Rattle.psy_run.specs.Texts.{agent_lines, check_lines, check_text, edge_lines, graph_lines, graph_text, line_of_node, node_lines};
 ghost use Rattle.psy_run.specs.Texts.{queue_lines, rate_lines, ring_lines, verdict_line};
 
-use crate::extent::Extent;
 use psy_base::{Edge, Items, Sizes};
 use psy_door::Sink;
 use psy_graph::{Graph, Node};
 use psy_log::{Line, Note, WriteFault, write_all_of};
+use psy_plan::Extent;
 use psy_rate::Rate;
 use psy_tree::{AgentDecl, StreamDecl, Unit, VarDecl};
 

@@ -19,9 +19,9 @@ use Rattle.psy_passes.specs.Runs.{IsRun}
 use Rattle.psy_passes.specs.declared.fault.PassFault.{PassFault}
 use Rattle.psy_passes.specs.declared.fault.PassFault.TheVariants as pass
 use Rattle.psy_script.specs.Inputs.{AreListsOf}
-use Rattle.psy_source.specs.Lines.{line_of}
-use Rattle.psy_source.specs.Programs.{IsProgram, IsRefused}
-use Rattle.psy_source.specs.declared.refusal.Refusal.{Refusal}
+use Rattle.psy_plan.specs.Lines.{line_of}
+use Rattle.psy_plan.specs.Programs.{IsProgram, IsRefused}
+use Rattle.psy_plan.specs.declared.refusal.Refusal.{Refusal}
 use Rattle.psy_tree.specs.declared.unit.Unit.{Unit as Whole}
 use Rattle.psy_view.specs.Answer.{breaks, has_many}
 use Rattle.psy_view.specs.Asked.{File, Request, Timeline, TimelineOf, TimelineWith, files_of, of_run}

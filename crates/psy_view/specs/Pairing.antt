@@ -5,7 +5,7 @@ use Rattle.psy_match.specs.Belonging.{foreign_in_graph, foreign_in_run}
 use Rattle.psy_meaning.specs.Units.{IsOfText}
 use Rattle.psy_notes.specs.Stands.{run_begins, graph_begins}
 use Rattle.psy_notes.specs.declared.stand.Stand.{Stand}
-use Rattle.psy_source.specs.Programs.{AreTokensOf}
+use Rattle.psy_plan.specs.Programs.{AreTokensOf}
 use Rattle.psy_tree.specs.declared.unit.Unit.{Unit as Whole}
 use Rattle.psy_script.specs.Inputs.{AreListsOf}
 use Rattle.psy_view.specs.declared.feeding.Fed.{Fed}

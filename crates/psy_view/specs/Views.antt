@@ -38,9 +38,9 @@ use Rattle.psy_script.specs.declared.fault.LineKind.{LineKind}
 use Rattle.psy_tree.specs.declared.token.Token.{Token}
 use Rattle.psy_tree.specs.declared.unit.Unit.{Unit as Whole}
 use Rattle.psy_tree.specs.Tokens.{TokensOf}
-use Rattle.psy_source.specs.declared.refusal.Refusal.{Refusal}
-use Rattle.psy_source.specs.Lines.{line_of}
-use Rattle.psy_source.specs.Programs.{IsProgram, IsRefused}
+use Rattle.psy_plan.specs.declared.refusal.Refusal.{Refusal}
+use Rattle.psy_plan.specs.Lines.{line_of}
+use Rattle.psy_plan.specs.Programs.{IsProgram, IsRefused}
 use Rattle.psy_feed.specs.Drawing.{flow_of}
 use Rattle.psy_gen.specs.Emission.{code_of}
 use Rattle.psy_listing.specs.Listing.{listing_of}

@@ -22,8 +22,8 @@ use psy_base::Memory;
 use psy_base::limits::FILE_BYTES;
 use psy_export::{Said, refusal};
 use psy_film::{FilmFault, Source, film, match_run};
+use psy_plan::{Stop, program_of};
 use psy_reel::Reel;
-use psy_source::{Stop, program_of};
 use std::alloc::Global;
 
 // ---- the files

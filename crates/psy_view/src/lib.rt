@@ -1,5 +1,5 @@
 //! `psyview`: explains what psyc refused, draws runs and graphs that psyc wrote, hands runs on, tries assertions on them, and tells what a
-//! program is before it runs. It may know psy_notes, psy_where, psy_draw, psy_film, psy_table, psy_wave, psy_differ, psy_claims, psy_source,
+//! program is before it runs. It may know psy_notes, psy_where, psy_draw, psy_film, psy_table, psy_wave, psy_differ, psy_claims, psy_plan,
 //! psy_script, psy_match, psy_feed, psy_listing, psy_report, and the door.
 #![tactic(auto)]
 

@@ -11,7 +11,7 @@ use psy_base::Memory;
 use psy_log::Note;
 use psy_match::{foreign_in_graph, foreign_in_run};
 use psy_notes::{TextFault, read_graph, read_run};
-use psy_source::{Program, Stop, program_of};
+use psy_plan::{Program, Stop, program_of};
 use std::alloc::Global;
 
 /// What psyc wrote, and the program that it is of.

@@ -2,7 +2,7 @@
 ghost use Rattle.std.specs.Prelude.{◌∷◌, ◌≤◌, [], ℕ, List, IfOk, length};
 ghost use Rattle.psy_base.specs.declared.limits.TheConstants.{FILE_BYTES};
 ghost use Rattle.psy_meaning.specs.Units.{IsOfText};
-ghost use Rattle.psy_source.specs.Programs.{AreTokensOf, IsProgram};
+ghost use Rattle.psy_plan.specs.Programs.{AreTokensOf, IsProgram};
 ghost use Rattle.psy_view.specs.Asked.{Flow, Listing, Report};
 ghost use Rattle.psy_view.specs.Views.{ViewOf};
 
@@ -12,8 +12,8 @@ use psy_base::Memory;
 use psy_feed::flow;
 use psy_listing::list;
 use psy_match::point_lines;
+use psy_plan::{Program, Stop, compile, program_of};
 use psy_report::report;
-use psy_source::{Program, Stop, program_of, unit_of};
 use std::alloc::Global;
 
 /// Who feeds whom in the program of a text. The only error is want of memory.
@@ -22,7 +22,7 @@ pub fn fed(alloc: Global, name: &str, bytes: &[u8]) -> Result<View, Memory>
     requires { length bytes.now ≤ FILE_BYTES }
     ensures { IfOk result (λ v. ViewOf (Flow name.now) (bytes.now ∷ []) v.status v.text.items) }
 {
-    match unit_of(alloc, bytes) {
+    match compile(alloc, bytes) {
         Ok(unit) => Ok(View {
             status: 0,
             text: flow(alloc, &unit)?,
@@ -67,7 +67,7 @@ pub fn reported(alloc: Global, name: &str, bytes: &[u8], until: u32) -> Result<V
     requires { length bytes.now ≤ FILE_BYTES }
     ensures { IfOk result (λ v. ViewOf (Report name.now until) (bytes.now ∷ []) v.status v.text.items) }
 {
-    let unit = match unit_of(alloc, bytes) {
+    let unit = match compile(alloc, bytes) {
         Ok(unit) => unit,
         Err(Stop::Refused(refusal)) => return refused(alloc, name, bytes, refusal),
         Err(Stop::Memory) => return Err(Memory),

@@ -1,15 +1,15 @@
 //! What `where` tells of a line, and of texts that are refused.
 ghost use Rattle.std.specs.Prelude.{◌≡◌, ◌≤◌, ◌++◌, IfOk, length};
 ghost use Rattle.psy_base.specs.declared.limits.TheConstants.{FILE_BYTES};
-ghost use Rattle.psy_source.specs.Lines.{line_of};
+ghost use Rattle.psy_plan.specs.Lines.{line_of};
 ghost use Rattle.psy_view.specs.Views.{IsTold, IsWhere, without_feed};
 
 use crate::refusals::{beyond_line, no_refusal_line};
 use crate::view::View;
 use psy_base::Memory;
 use psy_log::Line;
+use psy_plan::Refusal;
 use psy_report::asked_for;
-use psy_source::Refusal;
 use psy_where::{WhereFault, explain};
 use std::alloc::{AllocError, Global};
 

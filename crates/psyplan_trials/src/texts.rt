@@ -4,8 +4,8 @@ ghost use Rattle.psy_base.specs.declared.limits.TheConstants.{FILE_BYTES};
 
 use psy_feed::flow;
 use psy_log::Line;
+use psy_plan::{Stop, compile};
 use psy_report::report;
-use psy_source::{Stop, unit_of};
 use std::alloc::Global;
 use std::process::Abort;
 use std::test::Fail;
@@ -28,7 +28,7 @@ agent B on c budget 20 { body { if (ready(s)) { g = take(s); } advance 1 on c; }
 pub fn compare_flow(rt: &impl Abort, alloc: Global, text: &[u8], want: &str) -> Result<(), Fail>
     requires { length text.now ≤ FILE_BYTES }
 {
-    let unit = unit_of(alloc, text)?;
+    let unit = compile(alloc, text)?;
     let flow = flow(alloc, &unit)?;
     assert_eq!(rt; flow.as_slice(), want.as_bytes());
     Ok(())
@@ -44,7 +44,7 @@ pub fn compare_report(
 ) -> Result<(), Fail>
     requires { length text.now ≤ FILE_BYTES }
 {
-    let unit = unit_of(alloc, text)?;
+    let unit = compile(alloc, text)?;
     let report = report(alloc, &unit, until)?;
     assert_eq!(rt; report.as_slice(), want.as_bytes());
     Ok(())
@@ -54,7 +54,7 @@ pub fn compare_report(
 pub fn compare_line(rt: &impl Abort, alloc: Global, text: &[u8], want: &str) -> Result<(), Fail>
     requires { length text.now ≤ FILE_BYTES }
 {
-    match unit_of(alloc, text) {
+    match compile(alloc, text) {
         Err(Stop::Refused(refusal)) => {
             let mut line = Line::new();
             line.set(&refusal.note());

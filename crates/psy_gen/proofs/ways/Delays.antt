@@ -174,6 +174,9 @@ module _ (unit : Whole) (number : ℕ) (agent : AgentDecl) (known : IsAgent unit
     | inr more ↦ (let same : high ≡ place = omega (arith, below, more) in subst (Dies instrs) same dies_last)
   ]
 
+  pub dies_at : (place : ℕ) → low ≤ place → place ≤ high → Dies instrs place
+  dies_at place above below = dies high place above below (omega arith)
+
   abbrev Entered : ℕ → Type 0
   Entered place = (point : ℕ) × (point < length agent.points) × IsPassed instrs (from point) place
 

@@ -10,7 +10,7 @@ use Rattle.psy_tree.specs.declared.unit.Expr.{Expr, roll-Expr, map-Expr, ind-Exp
 use Rattle.psy_tree.specs.declared.unit.Expr.TheOpen.{Expr-F}
 use Rattle.psy_tree.specs.Paths.{total}
 use Rattle.psy_meaning.specs.Sizes.{binary_size, expr_size, expr_size_step}
-use Rattle.psy_gen.specs.Emission.{Layout, Operand, base_of, cells_in_slot, binary_code, arguments_code, expr_code_step, expr_code}
+use Rattle.psy_gen.specs.Emission.{Layout, Operand, base_of, cells_in_slot, width_of_unary, binary_code, arguments_code, expr_code_step, expr_code}
 use Rattle.psy_gen.proofs.Contexts.{HasAt, has-first}
 use Rattle.psy_gen.proofs.Equations.{operand, code_roll, size_roll}
 use Rattle.psy_gen.proofs.ways.Behinds.{expr_behind}
@@ -94,7 +94,7 @@ module _ (instrs : List Instr) (layout : Layout) where
   step (Expr-F.Past variable back) p h = steps_one instrs (instr.Past variable back) p h.0 refl
   step (Expr-F.Ready stream) p h = one_step (instr.Ready stream) p (tt {0}) h.0
   step (Expr-F.Take stream) p h = one_step (instr.Take stream) p (tt {0}) h.0
-  step (Expr-F.Unary operator width operand) p h = then_one operand (instr.Unary operator width) p (tt {0}) h
+  step (Expr-F.Unary operator width operand) p h = then_one operand (instr.Unary operator (width_of_unary operator width)) p (tt {0}) h
   step (Expr-F.Cast width operand) p h = then_one operand (instr.Cast width) p (tt {0}) h
   step (Expr-F.Binary operator width left right) p h = binary operator width left right p h
   step (Expr-F.Call function arguments) p h =

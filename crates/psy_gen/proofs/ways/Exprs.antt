@@ -11,7 +11,7 @@ use Rattle.psy_tree.specs.Paths.{total}
 use Rattle.psy_meaning.specs.Sizes.{binary_size, expr_size, expr_size_step}
 use Rattle.psy_meaning.specs.Ways.{Meter, Way, here, one, looking, both, either, ways_through, binary_way, expr_way_step, expr_way}
 use Rattle.psy_meaning.proofs.lemmas.Layers.{natural_expr}
-use Rattle.psy_gen.specs.Emission.{Layout, Operand, base_of, cells_in_slot, binary_code, arguments_code, expr_code_step, expr_code}
+use Rattle.psy_gen.specs.Emission.{Layout, Operand, base_of, cells_in_slot, width_of_unary, binary_code, arguments_code, expr_code_step, expr_code}
 use Rattle.psy_gen.proofs.Contexts.{HasAt, has-first}
 use Rattle.psy_gen.proofs.Equations.{operand, code_roll, size_roll}
 use Rattle.psy_gen.proofs.ways.Behinds.{expr_behind}
@@ -141,9 +141,9 @@ module _ (instrs : List Instr) (its : Measure) (layout : Layout) (calls : ℕ �
   step (Expr-F.Ready stream) mode p allows h = leaf (instr.Ready stream) mode p (tt {0}) h
   step (Expr-F.Take stream) mode p allows h = leaf (instr.Take stream) mode p (tt {0}) h
   step (Expr-F.Unary operator width operand) mode p allows h =
-      then_plain operand mode p (instr.Unary operator width) allows
-      (same_plain instrs its mode (instr.Unary operator width) (p + expr_size operand.0) (tt {0})
-      (expr_behind instrs layout operand.0 p (instr.Unary operator width ∷ []) h).0) h
+      then_plain operand mode p (instr.Unary operator (width_of_unary operator width)) allows
+      (same_plain instrs its mode (instr.Unary operator (width_of_unary operator width)) (p + expr_size operand.0) (tt {0})
+      (expr_behind instrs layout operand.0 p (instr.Unary operator (width_of_unary operator width) ∷ []) h).0) h
   step (Expr-F.Cast width operand) mode p allows h =
       then_plain operand mode p (instr.Cast width) allows
       (same_plain instrs its mode (instr.Cast width) (p + expr_size operand.0) (tt {0})

@@ -23,7 +23,7 @@ use Rattle.psy_meaning.specs.Sizes.{binary_size, expr_size, expr_size_step, stmt
 use Rattle.psy_meaning.specs.Sound.{Scope, Each, HasCopy, HasStream, IsSoundExpr, IsSoundStmt, agent_scope, sound_expr_step, sound_stmt_step}
 use Rattle.psy_meaning.proofs.lemmas.Eaches.{each-append}
 use Rattle.psy_meaning.proofs.lemmas.SoundParts.{exprs_natural, stmts_natural}
-use Rattle.psy_gen.specs.Emission.{Layout, Operand, Part, Placed, Places, base_of, cells_in_slot, binary_code, arguments_code, expr_code_step, expr_code}
+use Rattle.psy_gen.specs.Emission.{Layout, Operand, Part, Placed, Places, base_of, cells_in_slot, width_of_unary, binary_code, arguments_code, expr_code_step, expr_code}
 use Rattle.psy_gen.specs.Emission.{block_size, block_loops, placed_size, if_code, bounded_code, timed_code, stmt_code_step, stmt_code, stmts_code, places_in}
 use Rattle.psy_gen.specs.Emission.{places_step, places_of}
 use Rattle.psy_gen.proofs.Contexts.{HasAt}
@@ -171,8 +171,8 @@ module _ (unit : Whole) (number : ℕ) (agent : AgentDecl) (low high : ℕ) wher
     step (Expr-F.Ready stream) p above below sound = leaf (instr.Ready stream) p (tt {0}) (stream_there stream sound) above below
     step (Expr-F.Take stream) p above below sound = leaf (instr.Take stream) p (tt {0}) (stream_there stream sound) above below
     step (Expr-F.Unary operator width operand) p above below sound =
-        behind operand.0 p (instr.Unary operator width ∷ []) (operand.1 p above (omega (arith, below)) sound)
-        (leaf (instr.Unary operator width) (p + expr_size operand.0) (tt {0}) (tt {0}) (omega (arith, above)) (omega (arith, below)))
+        behind operand.0 p (instr.Unary operator (width_of_unary operator width) ∷ []) (operand.1 p above (omega (arith, below)) sound)
+        (leaf (instr.Unary operator (width_of_unary operator width)) (p + expr_size operand.0) (tt {0}) (tt {0}) (omega (arith, above)) (omega (arith, below)))
     step (Expr-F.Cast width operand) p above below sound =
         behind operand.0 p (instr.Cast width ∷ []) (operand.1 p above (omega (arith, below)) sound)
         (leaf (instr.Cast width) (p + expr_size operand.0) (tt {0}) (tt {0}) (omega (arith, above)) (omega (arith, below)))

@@ -44,7 +44,7 @@ use psy_ready::Ready;
 use psy_tree::Unit;
 
 /// The order of the last of so many orders that have come into force, and the first one where none has.
-fn order_by<'a>(declared: &'a [u32], orders: &'a [Order], passed: usize) -> &'a [u32]
+pub(super) fn order_by<'a>(declared: &'a [u32], orders: &'a [Order], passed: usize) -> &'a [u32]
     requires { passed ≤ length orders.now }
     ensures { result.now ≡ order_by declared.now orders.now passed }
 {
@@ -70,7 +70,7 @@ fn passed_by(orders: &[Order], passed: usize, next: u64) -> usize
 }
 
 /// The agent that gets the next cycle: the one that was chosen, as long as nothing has changed since.
-fn choose(ready: &Ready, order: &[u32], stale: bool, chosen: Option<u32>) -> Option<u32>
+pub(super) fn choose(ready: &Ready, order: &[u32], stale: bool, chosen: Option<u32>) -> Option<u32>
     requires lists { ListsEach (length ready.now) order.now }
     requires fresh { stale ≡ false → IsChosen ready.now order.now chosen }
     ensures { IsChosen ready.now order.now result }
@@ -197,7 +197,7 @@ pub(super) fn note(
 }
 
 /// The date done last: 0 before date 0.
-fn last_date(date: Option<u64>) -> u64
+pub(super) fn last_date(date: Option<u64>) -> u64
     ensures { result ≡ dates_done date - 1 }
 {
     match date {

@@ -53,6 +53,7 @@ impl Kernel {
             units: 0,
             declared,
             turned,
+            last: None,
         })
     }
 }

@@ -17,5 +17,6 @@ impl Kernel {
         ensures earlier { self.old.dates ≢ self.old.plan.until → stage_of self.new ≡ Stage.CycleDue (self.old.dates * self.old.plan.unit.quantum) }
     {
         self.engine.date();
+        self.last = None;
     }
 }

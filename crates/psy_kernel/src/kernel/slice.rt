@@ -1,7 +1,7 @@
 //! A slice: the cycles up to the first change on any processor.
 ghost use Rattle.std.specs.Prelude.{◌≡◌, ◌≢◌, ◌⊎◌, ℕ, ◌*◌, ◌+◌, ◌<◌, ◌≤◌, IfSome, IsFalse, IsTrue};
 ghost use Rattle.psy_history.specs.Processors.{processors};
-ghost use Rattle.psy_kernel.specs.Progress.{after_cycle, stage_of};
+ghost use Rattle.psy_kernel.specs.Progress.{counted_cycle, stage_of};
 ghost use Rattle.psy_kernel.specs.Slices.{Changes, IsIdleFor, IsOrderedAt, IsSliceEnd};
 
 use super::Kernel;
@@ -46,7 +46,7 @@ impl Kernel {
     // Does the cycle that is due, and tells whether anything changes behind it.
     fn change(&mut self) -> bool
         requires { stage_of self.old ≡ Stage.CycleDue self.old.cycles }
-        ensures state { self.new ≡ after_cycle self.old }
+        ensures state { self.new ≡ counted_cycle self.old }
         ensures changes { IsTrue result → Changes self.old (self.old.cycles + 1) }
         ensures steady { IsFalse result → Changes self.old (self.old.cycles + 1) → ⊥ }
         ensures within { self.new.cycles ≤ self.old.dates * self.old.plan.unit.quantum }
@@ -78,7 +78,7 @@ impl Kernel {
     /// order comes into force. It leaves what these cycles leave one by one. It takes no memory.
     pub fn slice(&mut self)
         requires { stage_of self.old ≡ Stage.CycleDue self.old.cycles }
-        ensures state { self.new ≡ record self.old { cycles = self.new.cycles } }
+        ensures state { self.new ≡ record self.old { cycles = self.new.cycles; last = None } }
         ensures end { IsSliceEnd self.old self.new.cycles }
         ensures count { (self.old.cycles < self.new.cycles) × (self.new.cycles ≤ self.old.dates * self.old.plan.unit.quantum) }
 
@@ -86,6 +86,7 @@ impl Kernel {
         ensures filled { (t : ℕ) → self.new.cycles ≡ t * self.old.plan.unit.quantum → stage_of self.new ≡ Stage.DateDue t }
         ensures inside { ((t : ℕ) → self.new.cycles ≢ t * self.old.plan.unit.quantum) → stage_of self.new ≡ Stage.CycleDue self.new.cycles }
     {
+        self.rest();
         match self.leader() {
             Some(leader) => self.follow(leader),
             None => self.go_by_cycles(),

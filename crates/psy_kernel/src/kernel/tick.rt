@@ -19,5 +19,6 @@ impl Kernel {
         self.engine.go_all(date);
         self.cycles = date;
         self.turned = turned_by(self.engine.rounds(), self.turned, date);
+        self.last = None;
     }
 }

@@ -1,10 +1,10 @@
 //! The units of a cycle, one for each processor.
 ghost use Rattle.std.specs.Prelude.{◌≡◌, ◌≢◌, ◌⊎◌, ℕ, ◌+◌, ◌*◌, ◌≤◌, IsFalse, IsTrue};
-ghost use Rattle.psy_kernel.specs.Progress.{after_cycle, after_unit, next_processor, stage_of};
+ghost use Rattle.psy_kernel.specs.Progress.{after_cycle, after_unit, counted, counted_cycle, next_processor, stage_of};
 ghost use Rattle.psy_kernel.specs.Slices.{IsOverBy, IsOverFor};
 
-use super::Kernel;
 use super::round::turned_by;
+use super::{Kernel, LastUnit};
 use crate::stage::Stage;
 use psy_history::laws::one_of_them;
 
@@ -13,7 +13,7 @@ impl Kernel {
     fn step(&mut self) -> bool
         requires { (stage_of self.old ≡ Stage.CycleDue self.old.cycles)
             ⊎ (stage_of self.old ≡ Stage.UnitDue self.old.cycles (next_processor self.old)) }
-        ensures state { self.new ≡ after_unit self.old }
+        ensures state { self.new ≡ counted self.old }
         ensures over { IsTrue result → IsOverFor self.old (next_processor self.old) (self.old.cycles + 1) }
         ensures goes { IsFalse result → IsOverFor self.old (next_processor self.old) (self.old.cycles + 1) → ⊥ }
     {
@@ -33,7 +33,7 @@ impl Kernel {
     // Does the cycle that is due, in the round in force, and tells whether an action is over with it.
     pub(super) fn round(&mut self) -> bool
         requires { stage_of self.old ≡ Stage.CycleDue self.old.cycles }
-        ensures state { self.new ≡ after_cycle self.old }
+        ensures state { self.new ≡ counted_cycle self.old }
         ensures over { IsTrue result → IsOverBy self.old (self.old.cycles + 1) }
         ensures goes { IsFalse result → IsOverBy self.old (self.old.cycles + 1) → ⊥ }
         ensures early { self.old.dates ≤ self.old.plan.until }
@@ -58,7 +58,16 @@ impl Kernel {
             ⊎ (stage_of self.old ≡ Stage.UnitDue self.old.cycles (next_processor self.old)) }
         ensures state { self.new ≡ after_unit self.old }
     {
+        let processor = self.next_processor();
+        let cycle = self.cycles;
+        let next = self.engine.coming(processor);
         self.step();
+        self.last = Some(LastUnit {
+            processor,
+            cycle,
+            ran: next.ran,
+            seen: next.seen,
+        });
     }
 
     /// Does the cycle that is due: a unit of each processor, in the round in force. It takes no memory.
@@ -70,6 +79,7 @@ impl Kernel {
         ensures filled { (t : ℕ) → self.new.cycles ≡ t * self.old.plan.unit.quantum → stage_of self.new ≡ Stage.DateDue t }
         ensures inside { ((t : ℕ) → self.new.cycles ≢ t * self.old.plan.unit.quantum) → stage_of self.new ≡ Stage.CycleDue self.new.cycles }
     {
+        self.rest();
         self.round();
     }
 }

@@ -4,7 +4,8 @@ use Rattle.psy_agree.proofs.laws.read_back.Goals as goal
 
 laws_of : goal.After-one_reading → AreLaws
 laws_of c = record {
-  of_text = c.of_text.ensures.unit;
+  of_text = c.programs.ensures;
+  supplies = c.supplies.ensures;
   short = c.short.ensures;
   edges = c.one_graph.ensures.edges;
   near = c.one_graph.ensures.near;

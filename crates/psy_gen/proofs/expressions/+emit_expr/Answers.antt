@@ -35,7 +35,7 @@ emit_expr-returns-in-Take t c = rw (c.in-Take.is, code_take) c.push-in-Take.ensu
 
 pub emit_expr-returns-in_ok-emit_expr-in-Unary : goal.emit_expr-returns-in_ok-emit_expr-in-Unary
 emit_expr-returns-in_ok-emit_expr-in-Unary t c =
-    rw (c.in-Unary.is, code_unary, ← c.get-in-Unary.ensures) (on_ok_weaker c.push-in-Unary.result (then_one _ _ _ _ _ c.in_ok-emit_expr-in-Unary.ensures) c.push-in-Unary.ensures)
+    rw (c.in-Unary.is, code_unary, ← c.get-in-Unary.ensures, ← c.width_of.ensures) (on_ok_weaker c.push-in-Unary.result (then_one _ _ _ _ _ c.in_ok-emit_expr-in-Unary.ensures) c.push-in-Unary.ensures)
 
 pub emit_expr-returns-in_ok-emit_expr-in-Cast : goal.emit_expr-returns-in_ok-emit_expr-in-Cast
 emit_expr-returns-in_ok-emit_expr-in-Cast t c =

@@ -3,6 +3,7 @@ use Rattle.std.proofs.Common.{length, sym, ap, subst, arith}
 use Rattle.psy_code.specs.declared.code.Code.{Code}
 use Rattle.psy_meaning.specs.Alike.{ActsAlike}
 use Rattle.psy_meaning.specs.CodeWays.{CanWalk}
+use Rattle.psy_flow.specs.Verified.{IsVerified}
 use Rattle.psy_gen.specs.Emission.{function_code, function_size}
 use Rattle.psy_gen.specs.Rooms.{HasRooms}
 use Rattle.psy_gen.specs.SameWays.{HasSameWays}
@@ -30,6 +31,9 @@ returns-clause-ways c = subst (HasSameWays c.args.unit.now) (sym (returns-clause
 
 pub returns-clause-rooms : goal.returns-clause-rooms
 returns-clause-rooms c = subst (HasRooms c.args.unit.now) (sym (returns-clause-code c)) (rooms_of c.args.unit.now)
+
+pub returns-clause-verified : goal.returns-clause-verified
+returns-clause-verified c = subst (IsVerified c.args.unit.now) (sym (returns-clause-code c)) (c.verified.ensures c.args.unit.now c.requires.text)
 
 pub returns-clause-size : goal.returns-clause-size
 returns-clause-size c = rw (ap (λ (k : Code). k.instrs) (returns-clause-code c)) (code_size c.args.unit.now)

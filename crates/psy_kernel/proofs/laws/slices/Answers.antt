@@ -1,12 +1,11 @@
 -- What is left of the proof of `laws::slices`.
-use Rattle.std.proofs.Common.{◌*◌, refl}
-use Rattle.psy_history.specs.Processors.{processors}
+use Rattle.std.proofs.Common.{◌*◌}
 use Rattle.psy_kernel.proofs.SliceEnds.{as_cycles, due_before, due_on, one_end, up_to}
-use Rattle.psy_kernel.proofs.WholeCycles.{whole_done}
+use Rattle.psy_kernel.proofs.WholeCycles.{whole_cycle}
 use Rattle.psy_kernel.proofs.laws.slices.Goals as goal
 
 pub returns-clause-units : goal.returns-clause-units
-returns-clause-units e p whole some = whole_done p whole (processors p.plan.unit) refl some
+returns-clause-units e p whole some = whole_cycle p whole some
 
 pub returns-clause-one_end : goal.returns-clause-one_end
 returns-clause-one_end e p a b x y = one_end p a b x y

@@ -1,7 +1,8 @@
 -- What is left of the proof of `asked::asked_by`.
 use Rattle.std.proofs.Common.{◌<◌, ◌≤◌, arith, subst}
 use Rattle.psy_history.specs.Processors.{processors}
-use Rattle.psy_source.specs.Programs.{IsRefused, Stops}
+use Rattle.psy_plan.specs.Courses.{Stops}
+use Rattle.psy_plan.specs.Programs.{IsRefused}
 use Rattle.psy_report.specs.Asked.{each_asks, no_processor, no_program, unmeasured}
 use Rattle.psy_report.specs.Measured.{IsUnmeasured}
 use Rattle.psy_report.proofs.asked.asked_by.Goals as goal

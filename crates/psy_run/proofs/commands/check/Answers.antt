@@ -25,7 +25,7 @@ pub returns-in_err-unit-clause-long : goal.returns-in_err-unit-clause-long
 returns-in_err-unit-clause-long g c = took_exit _ _ _ c.from_residual.ensures.1 c.in_err-unit.ensures.long
 
 pub returns-in_err-supply-clause-long : goal.returns-in_err-supply-clause-long
-returns-in_err-supply-clause-long g c = took_exit _ _ _ c.from_residual-in_err-supply.ensures.1 (took_never (supplying _ _) [] 0 0 _ _ (supplying_never_long _ _) (c.in_err-supply.ensures.err _ _ _))
+returns-in_err-supply-clause-long g c = took_exit _ _ _ c.from_residual-in_err-supply.ensures.1 (took_never (supplying _ _) [] 0 0 _ _ (supplying_never_long c.in_ok-unit.unit c.args.until) (c.in_err-supply.ensures.err _ _ _))
 
 pub returns-in_err-unit-clause-unread : goal.returns-in_err-unit-clause-unread
 returns-in_err-unit-clause-unread g c = unfailed_exit _ _ _ _ c.from_residual.ensures.1 c.in_err-unit.ensures.unread

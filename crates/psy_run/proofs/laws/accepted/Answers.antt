@@ -3,4 +3,4 @@ use Rattle.psy_run.proofs.Accepting.{is_runnable}
 use Rattle.psy_run.proofs.laws.accepted.Goals as goal
 
 pub returns : goal.returns
-returns c = is_runnable c.bounded.ensures c.of_text.ensures.unit c.extents.ensures.met
+returns c = is_runnable c.bounded.ensures c.programs.ensures c.supplies.ensures

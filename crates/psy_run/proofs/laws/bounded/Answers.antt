@@ -5,7 +5,7 @@ use Rattle.psy_run.proofs.laws.bounded.Goals as goal
 
 pub returns : goal.returns
 returns c words files = answering_bounded (record {
-  of_text = c.of_text.ensures.unit;
+  of_text = c.programs.ensures;
   short = c.short.ensures;
   alike = λ unit is. c.alike.ensures unit (c.sound.ensures.unit is.text.0 unit is.text.1);
   timing = c.one_graph.ensures.timing;
@@ -13,5 +13,5 @@ returns c words files = answering_bounded (record {
   inputs = c.lawful.ensures.inputs;
   script = c.lawful.ensures.script;
   keeps = c.bounds.ensures;
-  met = c.extents.ensures.met;
+  met = c.supplies.ensures;
 }) words files

@@ -1,58 +1,25 @@
 -- What is left of the proof of `laws::one_answer`.
 use Rattle.psy_run.proofs.DecidedAnswers.{Answers-same, Answers-some, refused-one}
-use Rattle.psy_run.proofs.DecidedSteps.{StepsDecide}
+use Rattle.psy_run.proofs.DecidedSteps.{PlansDecide}
 use Rattle.psy_run.proofs.laws.one_answer.Goals as goal
-use Rattle.psy_run.proofs.laws.one_answer.Goals.{After-horizons}
+use Rattle.psy_run.proofs.laws.one_answer.Goals.{After-short}
 
--- What the laws say of the steps
-decide : After-horizons → StepsDecide
+-- What the laws say of the plan's steps
+decide : After-short → PlansDecide
 decide c = record {
-  tokens = c.one_reading.ensures.tokens;
-  lexical = c.one_reading.ensures.fault;
-  tokens_or_lexical = c.one_reading.ensures.either;
-  tokens_not_lexical = c.one_reading.ensures.not_both;
-  first_deep = c.one_tree.ensures.deep;
-  deep_or_shallow = c.one_tree.ensures.depth;
-  deep_not_shallow = c.one_tree.ensures.not_both;
-  tree = c.one_tree.ensures.one;
-  fault = c.one_tree.ensures.one_fault;
-  tree_or_none = c.one_tree.ensures.some;
-  none_at_fault = c.one_tree.ensures.fault;
-  fault_no_tree = c.one_tree.ensures.no_fault;
-  unit = c.one_verdict.ensures.stands;
-  rule = c.one_verdict.ensures.fault;
-  count = c.one_verdict.ensures.count;
-  verdict = c.one_verdict.ensures.some;
-  unit_not_rule = c.one_verdict.ensures.stands_or_fault;
-  unit_not_count = c.one_verdict.ensures.stands_or_count;
-  rule_not_none = c.one_verdict.ensures.fault_or_none;
-  of_text = c.of_text.ensures.unit;
+  of_text = c.programs.ensures;
   short = c.short.ensures;
-  graphs = c.one_graph.ensures.same;
-  cause = c.one_graph.ensures.cause;
-  graphs_or_cause = c.one_graph.ensures.some;
-  graphs_not_cause = c.one_graph.ensures.apart;
-  edges = c.one_graph.ensures.edges;
-  cost = c.costs.ensures.one;
-  some_cost = c.costs.ensures.some;
-  timing = c.one_graph.ensures.timing;
-  some_nexts = c.nexts.ensures.some;
-  sizes = c.one_size.ensures.same;
-  size_fault = c.one_size.ensures.cause;
-  sizes_or_fault = c.one_size.ensures.some;
-  sizes_not_fault = c.one_size.ensures.apart;
-  greatest = c.greatest.ensures.some;
-  line = c.rates.ensures.one;
-  some_line = c.rates.ensures.some;
-  horizon = c.horizons.ensures.only;
-  horizon_or_none = c.horizons.ensures.groups;
+  program = c.one_plan.ensures.program;
+  graphs = c.one_plan.ensures.graphs;
+  costs = c.one_plan.ensures.costs;
+  supply = c.one_plan.ensures.supply;
 }
 
 pub returns-clause-same : goal.returns-clause-same
-returns-clause-same c words files = Answers-same (decide (goal.at.returns-clause-same c).After-horizons) files words
+returns-clause-same c words files = Answers-same (decide (goal.at.returns-clause-same c).After-short) files words
 
 pub returns-clause-some : goal.returns-clause-some
-returns-clause-some c words files = Answers-some (decide (goal.at.returns-clause-some c).After-horizons) files words
+returns-clause-some c words files = Answers-some (decide (goal.at.returns-clause-some c).After-short) files words
 
 pub returns-clause-refused : goal.returns-clause-refused
-returns-clause-refused c = refused-one (decide (goal.at.returns-clause-refused c).After-horizons)
+returns-clause-refused c = refused-one (decide (goal.at.returns-clause-refused c).After-short)

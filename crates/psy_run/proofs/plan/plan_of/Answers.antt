@@ -3,14 +3,13 @@ use Rattle.psy_dates.specs.declared.plan.Plan.{Plan}
 use Rattle.psy_run.specs.Planned.{IsStatedPlan}
 use Rattle.psy_run.specs.Supplies.{supply_of}
 use Rattle.psy_run.proofs.PlanLemmas.{each_apart, is_feasible_for}
-use Rattle.psy_run.proofs.SupplyLemmas.{supply_is}
 use Rattle.psy_run.proofs.plan.plan_of.Goals as goal
 
 pub returns-clause-plan : goal.returns-clause-plan
 returns-clause-plan c =
     let supply = c.args.supply in
     let plan : Plan = record { unit = c.args.unit; code = supply.code; nexts = supply.ways.nexts; sizes = supply.sizes; until = c.args.until } in
-    let is = supply_is c.extents.ensures.met c.args.unit c.args.until (supply_of c.requires.supplied.0 supply) c.requires.text c.requires.supplied.1 in
+    let is = c.supplies.ensures c.args.unit c.args.until (supply_of c.requires.supplied.0 supply) c.requires.text c.requires.supplied.1 in
     let stated : IsStatedPlan plan = record {
       compiled = record { text = c.requires.text; alike = c.requires.alike; followed = is.followed };
       buffers = is.sized;

@@ -1,12 +1,12 @@
 -- What each loop of `run::pass_dates` keeps.
-use Rattle.std.proofs.Common.{◌≡◌, ◌+◌, ◌-◌, ◌*◌, ◌≤◌, length}
+use Rattle.std.proofs.Common.{◌≡◌, ◌+◌, ◌-◌, ◌*◌, ◌≤◌, None, length}
 use Rattle.psy_kernel.specs.Progress.{lines_told}
 use Rattle.psy_run.proofs.run.pass_dates.Given as goal
 
 abbrev pub invariant-stages : goal.invariant-stages
 invariant-stages l =
     record {
-      same : l.kernel ≡ record (l.fn.kernel) { dates = l.kernel.dates; cycles = l.kernel.cycles; given = l.kernel.given };
+      same : l.kernel ≡ record (l.fn.kernel) { dates = l.kernel.dates; cycles = l.kernel.cycles; given = l.kernel.given; last = None };
       given : l.kernel.given ≡ length (lines_told l.kernel);
       within : l.kernel.dates ≤ l.fn.kernel.plan.until + 1;
       cycles : l.kernel.cycles ≤ l.kernel.dates * l.fn.kernel.plan.unit.quantum;

@@ -35,7 +35,7 @@ stages-preserved g c =
     let lines : lines_told c.date.new.self ≡ lines_of (system old) p.dates = ap lines_told c.date.ensures.state ∙ lines_told-after p (ap (λ k. (system k).opening.dates) c.stages.invariant.same ∙ whole-booted old c.requires.booted) ∙ ap (λ k. lines_of (system k) p.dates) c.stages.invariant.same in
     record {
       same = progress-parts q old (ap (λ k. k.plan) after ∙ ap (λ k. k.plan) c.stages.invariant.same) (ap (λ k. k.inputs) after ∙ ap (λ k. k.inputs) c.stages.invariant.same) (ap (λ k. k.script) after ∙ ap (λ k. k.script) c.stages.invariant.same)
-          (ap (λ k. k.opening) after ∙ ap (λ k. k.opening) c.stages.invariant.same) (ap (λ k. k.units) after ∙ ap (λ k. k.units) c.stages.invariant.same);
+          (ap (λ k. k.opening) after ∙ ap (λ k. k.opening) c.stages.invariant.same) (ap (λ k. k.units) after ∙ ap (λ k. k.units) c.stages.invariant.same) (ap (λ k. k.last) after);
       given = ap (λ k. k.given) given ∙ sym (ap (λ k. length (lines_told k)) given);
       within = omega (arith, due.2, c.stages.invariant.within, until, dates);
       cycles = rw dates (cycles-after old.plan.unit.quantum p.dates q.cycles cycles);

@@ -1,5 +1,5 @@
 -- What each loop of `run::run_dates` keeps.
-use Rattle.std.proofs.Common.{◌≡◌, ◌+◌, ◌-◌, ◌*◌, ◌≤◌, length}
+use Rattle.std.proofs.Common.{◌≡◌, ◌+◌, ◌-◌, ◌*◌, ◌≤◌, None, length}
 use Rattle.psy_door.specs.Growth.{Grew}
 use Rattle.psy_kernel.specs.Progress.{lines_told, system}
 use Rattle.psy_kernel.specs.Texts.{log_of}
@@ -8,7 +8,7 @@ use Rattle.psy_run.proofs.run.run_dates.Given as goal
 abbrev pub invariant-stages : goal.invariant-stages
 invariant-stages g l =
     record {
-      same : l.kernel ≡ record (l.fn.kernel) { dates = l.kernel.dates; cycles = l.kernel.cycles; given = l.kernel.given };
+      same : l.kernel ≡ record (l.fn.kernel) { dates = l.kernel.dates; cycles = l.kernel.cycles; given = l.kernel.given; last = None };
       given : l.kernel.given ≡ length (lines_told l.kernel);
       within : l.kernel.dates ≤ l.fn.kernel.plan.until + 1;
       cycles : l.kernel.cycles ≤ l.kernel.dates * l.fn.kernel.plan.unit.quantum;

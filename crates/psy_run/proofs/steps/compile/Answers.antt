@@ -20,7 +20,7 @@ pub returns-in_err-bytes-clause-long : goal.returns-in_err-bytes-clause-long
 returns-in_err-bytes-clause-long g c = took_exit _ _ _ c.from_residual.ensures.1 c.in_err-bytes.ensures.long
 
 pub returns-clause-long : goal.returns-clause-long
-returns-clause-long g c = took_last _ _ _ _ _ _ (translating_never_long _) (c.translate.ensures.err [] 0 0)
+returns-clause-long g c = took_last _ _ _ _ _ _ (translating_never_long c.in_ok-bytes.bytes.items) (c.translate.ensures.err [] 0 0)
 
 pub returns-in_err-bytes-clause-unread : goal.returns-in_err-bytes-clause-unread
 returns-in_err-bytes-clause-unread g c = unfailed_exit _ _ _ _ c.from_residual.ensures.1 c.in_err-bytes.ensures.unread

@@ -1,6 +1,7 @@
 -- What is left of the proof of `filming::filmed_of`.
 use Rattle.std.proofs.Common.{refl, subst}
-use Rattle.psy_source.specs.Programs.{IsRefused, Stops}
+use Rattle.psy_plan.specs.Courses.{Stops}
+use Rattle.psy_plan.specs.Programs.{IsRefused}
 use Rattle.psy_view.specs.Views.{by_other}
 use Rattle.psy_view.proofs.FilmingLemmas.{program_told, refused_other, refused_told}
 use Rattle.psy_view.proofs.PlanLemmas.{shown_as}

@@ -1,6 +1,7 @@
 -- What is left of the proof of `filming::filmed_with`.
 use Rattle.std.proofs.Common.{refl, subst, sym}
-use Rattle.psy_source.specs.Programs.{IsRefused, Stops}
+use Rattle.psy_plan.specs.Courses.{Stops}
+use Rattle.psy_plan.specs.Programs.{IsRefused}
 use Rattle.psy_view.specs.Pairing.{AreRead}
 use Rattle.psy_view.specs.Views.{with_other}
 use Rattle.psy_view.proofs.FilmingLemmas.{inputs_told, ok_is, refused_other, refused_told, unfed_other, unfed_told}

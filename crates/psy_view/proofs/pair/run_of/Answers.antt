@@ -3,7 +3,8 @@ use Rattle.std.proofs.Common.{Err, ap, sym, subst, ◌∙◌}
 use Rattle.std.specs.Prelude.{codes}
 use Rattle.psy_match.specs.Belonging.{foreign_in_run}
 use Rattle.psy_notes.specs.Stands.{run_begins}
-use Rattle.psy_source.specs.Programs.{IsRefused, Stops}
+use Rattle.psy_plan.specs.Courses.{Stops}
+use Rattle.psy_plan.specs.Programs.{IsRefused}
 use Rattle.psy_view.specs.Views.{breaks, is_foreign, no_program}
 use Rattle.psy_view.proofs.PairLemmas.{said}
 use Rattle.psy_view.proofs.pair.run_of.Goals as goal

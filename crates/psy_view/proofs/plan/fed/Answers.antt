@@ -1,7 +1,8 @@
 -- What is left of the proof of `plan::fed`.
 use Rattle.std.proofs.Common.{[], ◌∷◌, subst}
-use Rattle.psy_source.specs.Lines.{line_of}
-use Rattle.psy_source.specs.Programs.{IsRefused, Stops}
+use Rattle.psy_plan.specs.Lines.{line_of}
+use Rattle.psy_plan.specs.Courses.{Stops}
+use Rattle.psy_plan.specs.Programs.{IsRefused}
 use Rattle.psy_view.specs.Asked.{Flow}
 use Rattle.psy_view.specs.Views.{IsTold, ViewOf, flows, no_flow}
 use Rattle.psy_view.proofs.PlanLemmas.{refused_as}

@@ -1,7 +1,8 @@
 -- What is left of the proof of `plan::listed`.
 use Rattle.std.proofs.Common.{[], ◌∷◌, subst}
-use Rattle.psy_source.specs.Lines.{line_of}
-use Rattle.psy_source.specs.Programs.{IsRefused, Stops}
+use Rattle.psy_plan.specs.Lines.{line_of}
+use Rattle.psy_plan.specs.Courses.{Stops}
+use Rattle.psy_plan.specs.Programs.{IsRefused}
 use Rattle.psy_view.specs.Asked.{Listing}
 use Rattle.psy_view.specs.Views.{IsTold, ViewOf, no_listing}
 use Rattle.psy_view.proofs.PlanLemmas.{refused_as}

@@ -2,7 +2,7 @@
 use Rattle.std.proofs.Common.{◌≡◌, ℕ, ◌+◌, ◌≤◌, ap, sym, subst, ◌∙◌, inl, inr, arith}
 use Rattle.std.proofs.lemmas.Bool.{cases_eq}
 use Rattle.psy_kernel.specs.declared.stage.Stage.TheVariants.{CycleDue}
-use Rattle.psy_kernel.specs.Progress.{Progress, after_cycle, stage_of}
+use Rattle.psy_kernel.specs.Progress.{Progress, counted_cycle, stage_of}
 use Rattle.psy_kernel.specs.Slices.{Changes}
 use Rattle.psy_kernel.proofs.Stages.{cycle_due, cycle_is}
 use Rattle.psy_kernel.proofs.kernel.Kernel.go_by_cycles.Goals as goal
@@ -11,7 +11,7 @@ pub cycles-preserved : goal.cycles-preserved
 cycles-preserved c =
     let first : Progress = c.args.self.now in
     let p : Progress = c.cycles.self in
-    let after : Progress → Progress = after_cycle in
+    let after : Progress → Progress = counted_cycle in
     let steady : (between : ℕ) → Changes p between → Changes first between = λ between. subst (λ (q : Progress). Changes q between) c.cycles.invariant.kept in
     let not_now : Changes p (p.cycles + 1) → ⊥ = c.change.ensures.steady c.if-change.false in
     let w = cycle_due p c.cycles.invariant.due in

@@ -4,8 +4,8 @@ use Rattle.std.proofs.lemmas.Bool.{cases_eq}
 use Rattle.psy_history.specs.Processors.{processors}
 use Rattle.psy_history.specs.Scripts.{IsScript}
 use Rattle.psy_kernel.specs.declared.stage.Stage.TheVariants.{CycleDue, UnitDue}
-use Rattle.psy_kernel.specs.Progress.{Progress, after_cycle, after_unit, next_processor, stage_of}
-use Rattle.psy_kernel.specs.Slices.{IsOverFor, after_units}
+use Rattle.psy_kernel.specs.Progress.{Progress, counted_cycle, counted, next_processor, stage_of}
+use Rattle.psy_kernel.specs.Slices.{IsOverFor, counted_on}
 use Rattle.psy_kernel.proofs.RoundsDone.{at_place, none_over, over_by, unit_not, unit_over}
 use Rattle.psy_kernel.proofs.Sliced.{before_date, early_in, fills, goes_on}
 use Rattle.psy_kernel.proofs.Stages.{cycle_due}
@@ -32,7 +32,7 @@ units-preserved c =
     let over_now : IsTrue c.step.result → IsOverFor p (at_place p n) (p.cycles + 1) = λ yes. unit_over p whole.2 n less (subst (λ (q : Progress). IsOverFor q (next_processor q) (q.cycles + 1)) c.units.invariant.state (c.step.ensures.over yes)) in
     let goes_now : IsFalse c.step.result → IsOverFor p (at_place p n) (p.cycles + 1) → ⊥ = λ no. unit_not p whole.2 n less (subst (λ (q : Progress). IsOverFor q (next_processor q) (q.cycles + 1) → ⊥) c.units.invariant.state (c.step.ensures.goes no)) in
     record {
-      state = c.step.ensures.state ∙ ap (λ (q : Progress). after_unit q) c.units.invariant.state ∙ ap (λ m. after_units m p) one_more;
+      state = c.step.ensures.state ∙ ap (λ (q : Progress). counted q) c.units.invariant.state ∙ ap (λ m. counted_on m p) one_more;
       over = λ yes. elim c.if-step.branch [
         | then-step w ↦ over_by p (at_place p n) (p.cycles + 1) (over_now w.if-step.true)
         | else-step w ↦ c.units.invariant.over (sym w.over-is ∙ yes)
@@ -53,7 +53,7 @@ returns-clause-state c =
     let whole = cycle_due p c.requires in
     let all : c.units.counter ≡ processors p.plan.unit = omega (arith, c.units-test.false, c.units.auto.counter-end, c.processors-end.ensures, count) in
     let some : 1 ≤ c.units.counter = omega (arith, all, count, c.self.invariant.units) in
-    let state : c.units.self ≡ after_cycle p = c.units.invariant.state ∙ whole_done p whole.2 c.units.counter all some in
+    let state : c.units.self ≡ counted_cycle p = c.units.invariant.state ∙ whole_done p whole.2 c.units.counter all some in
     let cycles : c.units.self.cycles ≡ p.cycles + 1 = ap (λ (q : Progress). q.cycles) state in
     state
 
@@ -67,7 +67,7 @@ returns-clause-goes c =
     let whole = cycle_due p c.requires in
     let all : c.units.counter ≡ processors p.plan.unit = omega (arith, c.units-test.false, c.units.auto.counter-end, c.processors-end.ensures, count) in
     let some : 1 ≤ c.units.counter = omega (arith, all, count, c.self.invariant.units) in
-    let state : c.units.self ≡ after_cycle p = c.units.invariant.state ∙ whole_done p whole.2 c.units.counter all some in
+    let state : c.units.self ≡ counted_cycle p = c.units.invariant.state ∙ whole_done p whole.2 c.units.counter all some in
     let cycles : c.units.self.cycles ≡ p.cycles + 1 = ap (λ (q : Progress). q.cycles) state in
     λ no.
     none_over p whole.2 (subst (λ (q : Progress). IsScript q.plan.unit q.script) c.self.view_is c.self.invariant.script) (c.one_of_them.ensures.one p.plan.unit)
@@ -83,7 +83,7 @@ returns-clause-within c =
     let whole = cycle_due p c.requires in
     let all : c.units.counter ≡ processors p.plan.unit = omega (arith, c.units-test.false, c.units.auto.counter-end, c.processors-end.ensures, count) in
     let some : 1 ≤ c.units.counter = omega (arith, all, count, c.self.invariant.units) in
-    let state : c.units.self ≡ after_cycle p = c.units.invariant.state ∙ whole_done p whole.2 c.units.counter all some in
+    let state : c.units.self ≡ counted_cycle p = c.units.invariant.state ∙ whole_done p whole.2 c.units.counter all some in
     let cycles : c.units.self.cycles ≡ p.cycles + 1 = ap (λ (q : Progress). q.cycles) state in
     let before = before_date c.self.inside c.self.invariant p c.self.view_is c.requires in
     let high = subst (λ (q : Progress). q.cycles < q.dates * q.plan.unit.quantum) c.self.view_is before in
@@ -96,7 +96,7 @@ returns-clause-filled c = λ t filled_is.
     let whole = cycle_due p c.requires in
     let all : c.units.counter ≡ processors p.plan.unit = omega (arith, c.units-test.false, c.units.auto.counter-end, c.processors-end.ensures, count) in
     let some : 1 ≤ c.units.counter = omega (arith, all, count, c.self.invariant.units) in
-    let state : c.units.self ≡ after_cycle p = c.units.invariant.state ∙ whole_done p whole.2 c.units.counter all some in
+    let state : c.units.self ≡ counted_cycle p = c.units.invariant.state ∙ whole_done p whole.2 c.units.counter all some in
     let cycles : c.units.self.cycles ≡ p.cycles + 1 = ap (λ (q : Progress). q.cycles) state in
     let before = before_date c.self.inside c.self.invariant p c.self.view_is c.requires in
     let high = subst (λ (q : Progress). q.cycles < q.dates * q.plan.unit.quantum) c.self.view_is before in
@@ -109,7 +109,7 @@ returns-clause-inside c = λ none.
     let whole = cycle_due p c.requires in
     let all : c.units.counter ≡ processors p.plan.unit = omega (arith, c.units-test.false, c.units.auto.counter-end, c.processors-end.ensures, count) in
     let some : 1 ≤ c.units.counter = omega (arith, all, count, c.self.invariant.units) in
-    let state : c.units.self ≡ after_cycle p = c.units.invariant.state ∙ whole_done p whole.2 c.units.counter all some in
+    let state : c.units.self ≡ counted_cycle p = c.units.invariant.state ∙ whole_done p whole.2 c.units.counter all some in
     let cycles : c.units.self.cycles ≡ p.cycles + 1 = ap (λ (q : Progress). q.cycles) state in
     let before = before_date c.self.inside c.self.invariant p c.self.view_is c.requires in
     let high = subst (λ (q : Progress). q.cycles < q.dates * q.plan.unit.quantum) c.self.view_is before in

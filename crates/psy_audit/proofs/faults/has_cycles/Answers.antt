@@ -1,0 +1,16 @@
+-- What is left of the proof of `faults::has_cycles`.
+use Rattle.std.proofs.Common.{◌∙◌, ◌==◌, List, filter, ap}
+use Rattle.psy_audit.specs.declared.said.Segment.{Segment}
+use Rattle.psy_audit.specs.Courses.{are_cycles}
+use Rattle.psy_audit.specs.Judging.{untied}
+use Rattle.psy_audit.proofs.Firsts.{own_segments}
+use Rattle.psy_audit.proofs.faults.has_cycles.Goals as goal
+
+pub returns : goal.returns
+returns c =
+    let t = c.args.table.now in
+    let a = c.args.act.now in
+    c.are_cycles.ensures
+    ∙ ap (λ its. are_cycles (untied t.plan.now) its a)
+    (c.as_slice.ensures ∙ c.in_ok-its.ensures ∙ ap (λ (xs : List Segment). filter (λ (s : Segment). s.number == a.number) xs) c.segments_of.ensures
+    ∙ own_segments t.lines.now a.agent a.number)

@@ -1,0 +1,6 @@
+-- What is left of the proof of `laws::marked`.
+use Rattle.psy_flow.proofs.lemmas.Marked.{verified}
+use Rattle.psy_flow.proofs.laws.marked.Goals as goal
+
+pub returns : goal.returns
+returns c = verified

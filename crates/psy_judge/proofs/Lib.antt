@@ -1,0 +1,20 @@
+-- The lemmas of this crate, by subject.
+mod CallsJudged
+mod EndsFound
+mod InstrJudged
+mod JudgedBools
+mod LeastFaults
+mod ListReads
+mod Marked
+mod NeedsGathered
+mod OnwardOf
+mod OwnersJudged
+mod OwnersReady
+mod PlacesMet
+mod Pumping
+mod RowsTaken
+mod Ruled
+mod Shifted
+mod TakenPlaces
+mod TopsJoined
+mod WholeJudged

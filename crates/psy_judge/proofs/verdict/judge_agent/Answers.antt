@@ -1,0 +1,22 @@
+-- What is left of the proof of `verdict::judge_agent`.
+use Rattle.std.proofs.Common.{◌≡◌, ◌⊎◌, ◌<◌, ℕ, List, false, true, length, get_or, subst}
+use Rattle.std.specs.Prelude.{◌↔◌}
+use Rattle.std.specs.List.{Contains}
+use Rattle.psy_judge.proofs.TakenPlaces.{taken_agent}
+use Rattle.psy_judge.proofs.verdict.judge_agent.Goals as goal
+
+pub take_all-requires-clause-inside : goal.take_all-requires-clause-inside
+take_all-requires-clause-inside c place has = ((c.in_ok-places.ensures.explored.reached place).0 (subst (λ (ps : List ℕ). Contains ps place) c.as_slice-5.ensures has)).0
+
+pub clear-requires-clause-inside : goal.clear-requires-clause-inside
+clear-requires-clause-inside c place has = ((c.in_ok-places.ensures.explored.reached place).0 (subst (λ (ps : List ℕ). Contains ps place) c.as_slice-6.ensures has)).0
+
+pub returns-clause-ready : goal.returns-clause-ready
+returns-clause-ready c = record {
+  clear = c.in_ok-places.ensures.clear;
+  reached =
+      taken_agent c.args.code.now (length c.args.code.now.functions) c.args.number c.in_ok-places.places c.args.taken.now c.take_all.new.taken c.requires.ready.reached c.in_ok-places.ensures.explored.reached c.take_all.ensures.size
+      (subst (λ (ps : List ℕ). (place : ℕ) → place < length c.args.code.now.instrs → (get_or c.take_all.new.taken place false ≡ true) ↔ ((get_or c.args.taken.now place false ≡ true) ⊎ Contains ps place))
+      c.as_slice-5.ensures c.take_all.ensures.each);
+  empty = c.clear.ensures;
+}

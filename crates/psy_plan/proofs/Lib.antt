@@ -1,0 +1,10 @@
+-- The lemmas of this crate, by subject.
+mod Courses
+mod DecidedPlans
+mod DecidedSteps
+mod ExtentLemmas
+mod ProcessorDemands
+mod RefusalLemmas
+mod SupplyLemmas
+mod WayLemmas
+pub mod lemmas

@@ -1,0 +1,3 @@
+-- Lemmas that crates above may cite, by subject.
+pub mod Decisions
+pub mod Stopping

@@ -1,2 +1,0 @@
--- Lemmas that crates above may cite, by subject.
-pub mod Stopping
