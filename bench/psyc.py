@@ -1,6 +1,7 @@
 """The programs that the scripts of this folder time."""
 import os
 import re
+import shutil
 import subprocess
 import sys
 import tempfile
@@ -72,7 +73,7 @@ def first_byte(words, times=5):
     return least
 
 
-def executed(words, inside=None):
+def executed(words, inside=None, status=0):
     """How many instructions the processor executes for a process with these words, or of them inside of a function and what it calls: 0 where it
     isn't called, or the program has no symbols."""
     with tempfile.TemporaryDirectory() as folder:
@@ -80,6 +81,14 @@ def executed(words, inside=None):
         done = subprocess.run(["valgrind", "--tool=callgrind", f"--callgrind-out-file={folder}/out", *asked, *words],
                               stdout=subprocess.DEVNULL, stderr=subprocess.PIPE, text=True)
     found = re.search(r"Collected : (\d+)", done.stderr)
-    if done.returncode != 0 or not found:
+    if done.returncode != status or not found:
         sys.exit(f"{' '.join(words)}: status {done.returncode}\n{done.stderr}")
     return int(found.group(1))
+
+
+def work(words, status=0):
+    """What a process with these words costs: instructions of the processor where there is valgrind, else nanoseconds of it."""
+    return executed(words, status=status) if shutil.which("valgrind") else seconds(words, status) * 1e9
+
+
+UNIT = "instructions" if shutil.which("valgrind") else "nanoseconds"

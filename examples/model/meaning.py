@@ -50,6 +50,7 @@ class Return(Exception):
 class Action:
     agent: str
     number: int
+    point: int  # where it starts
     start: int
     deadline: int
     budget: int
@@ -361,26 +362,35 @@ class History:
         self.published[name].append(self.committed[name])
         self.lines.append(f"{date} {name} {self.committed[name]}")
 
-    def start(self, name, seat, date):
-        agent = self.program.agents[name]
-        behind = pieces(agent, seat.point)
-        ends = [agent.points[point] for point in next_points(behind)[0]]
-        deadline = min(point.clock.after(date, point.count) for point in ends)
-        action = Action(name, seat.actions, date, deadline, agent.points[seat.point].budget)
-        view = {
-            stream: [m for m in self.messages[stream] if m.visible <= date < m.expiry]
-            for stream, declared in self.program.streams.items() if declared.receiver == name
-        }
+    def following(self, agent, point):
+        """The points that an action from a point may come to first."""
+        return next_points(pieces(agent, point))[0]
+
+    def act(self, agent, seat, action, view):
+        """Does an action: its cost, the point that it comes to, and what it leaves in the agent's variables and working copies."""
         execution = Execution(self, action, copy.deepcopy(seat.variables), dict(seat.copies), view)
+        point = None
         try:
-            execution.run(behind, None)
+            execution.run(pieces(agent, seat.point), None)
         except Advance as reached:
             point = reached.args[0]
         except Trap as trap:
             action.stop = f"trap {trap}"
-        charge = execution.cost + sum(
+        return execution.cost, point, execution.variables, execution.copies
+
+    def start(self, name, seat, date):
+        agent = self.program.agents[name]
+        ends = [agent.points[point] for point in self.following(agent, seat.point)]
+        deadline = min(point.clock.after(date, point.count) for point in ends)
+        action = Action(name, seat.actions, seat.point, date, deadline, agent.points[seat.point].budget)
+        view = {
+            stream: [m for m in self.messages[stream] if m.visible <= date < m.expiry]
+            for stream, declared in self.program.streams.items() if declared.receiver == name
+        }
+        cost, point, variables, copies = self.act(agent, seat, action, view)
+        charge = cost + sum(
             cycles for (who, number, instruction), cycles in self.stalls.items()
-            if (who, number) == (name, action.number) and instruction < execution.cost
+            if (who, number) == (name, action.number) and instruction < cost
         )
         action.work = min(charge, action.budget)
         if charge > action.budget:
@@ -388,7 +398,7 @@ class History:
         seat.last, seat.start, seat.actions = action, None, seat.actions + 1
         if not action.stop:
             to = agent.points[point]
-            action.end, action.copies = to.clock.after(date, to.count), execution.copies
+            action.end, action.copies = to.clock.after(date, to.count), copies
             seat.point, seat.start = point, action.end
-            seat.variables, seat.copies = execution.variables, execution.copies
+            seat.variables, seat.copies = variables, copies
         self.actions.append(action)

@@ -73,6 +73,7 @@ class Agent:
     variables: dict
     points: list
     body: list = field(default_factory=list)
+    ways: object = None  # of its code, where it has code and no body
 
 
 @dataclass(eq=False)

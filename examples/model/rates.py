@@ -1,8 +1,7 @@
 """The line above each agent's demand, the length from which on each processor is above the lines of its agents, and the demand itself, as they are defined."""
 from functools import lru_cache
 
-from meaning import next_points, pieces
-from sizes import common
+from sizes import common, points_from
 
 SCALE = 1 << 20  # parts of a cycle, in which lines are told
 
@@ -18,7 +17,7 @@ def edges_of(program, agent):
         if place in seen:
             continue
         seen.add(place)
-        ends = {to: agent.points[to].clock.after(date, agent.points[to].count) for to in next_points(pieces(agent, point))[0]}
+        ends = {to: agent.points[to].clock.after(date, agent.points[to].count) for to in points_from(agent, point)}
         due = min(ends.values()) - date
         found += [(place, (to, end % cycle), end - date, due, agent.points[point].budget) for to, end in ends.items()]
         open_ += ends.items()

@@ -84,17 +84,17 @@ def common(periods):
 
 @lru_cache(None)
 def points_from(agent, point):
-    return next_points(pieces(agent, point))[0]
+    return agent.ways.points(point) if agent.ways else next_points(pieces(agent, point))[0]
 
 
 @lru_cache(None)
 def looks_from(agent, point):
-    return may_look(pieces(agent, point))[0]
+    return agent.ways.looks(point) if agent.ways else may_look(pieces(agent, point))[0]
 
 
 @lru_cache(None)
 def sends_from(agent, point, stream):
-    return most_sends(pieces(agent, point), stream)[0]
+    return agent.ways.most_sends(point, stream) if agent.ways else most_sends(pieces(agent, point), stream)[0]
 
 
 @lru_cache(None)
@@ -140,11 +140,11 @@ def spread(program, agent, stream, window):
 
 def queue(program, name):
     stream = program.streams[name]
-    sends = [send for agent in program.agents.values() for send in sends_in(agent.body) if send[2] == name]
+    sends = [send for agent in program.agents.values() for send in (agent.ways.sends() if agent.ways else sends_in(agent.body)) if send[2] == name]
     if not sends:
         return 0
     receiver = program.agents[stream.receiver]
-    delay = max((send[3] + 1) * send[4].period - 1 for send in sends)
+    delay = max((after + 1) * clock.period - 1 for _, _, _, after, clock in sends)
     lengths = [end - date for (point, date), ends in steps(program, receiver).items() for end in ends.values()]
     window = delay + stream.keep * stream.clock.period + max(lengths + [receiver.clock.first]) - 1
     return sum(spread(program, agent, name, window) for agent in program.agents.values())

@@ -34,12 +34,12 @@ use Rattle.psy_history.specs.declared.told.Script.{Script}
 use Rattle.psy_plan.specs.Programs.{IsProgram}
 use Rattle.psy_plan.specs.Supplies.{IsSupply, Supply}
 use Rattle.psy_plan.specs.Supplies as plan
-use Rattle.psy_run.specs.Answer.{answering, checking, compiling, drawing, listing, running, serving, supplying, translating, trying}
+use Rattle.psy_run.specs.Answer.{answering, building, checking, compiling, drawing, executing, judging, listing, running, serving, supplying, translating, trying}
 use Rattle.psy_run.specs.Bounds.{IsBounded, KeepsBounds}
 use Rattle.psy_run.specs.Courses.{in_row}
 use Rattle.psy_run.specs.Services.{Service, Ran, Drawn, meaning_of, no_inputs, no_script, text_of}
 use Rattle.psy_script.specs.Inputs.{AreListsOf}
-use Rattle.psy_run.specs.Asked.{Asks, Command, asks_check, asks_graph, asks_make, asks_run, asks_run_with_inputs, asks_run_with_script, asks_trial}
+use Rattle.psy_run.specs.Asked.{Asks, Command, asks_check, asks_graph, asks_make, asks_run, asks_run_with_inputs, asks_run_with_script, asks_trial, asks_build, asks_exec, asks_exec_with_inputs, asks_exec_with_script, asks_audit, asks_audit_with_script}
 use Rattle.psy_history.specs.Scripts.{order_of, stalls_of}
 use Rattle.psy_agree.specs.Readable.{IsRead, IsReadBack}
 use Rattle.psy_history.proofs.lemmas.NoInputs.{are_no_inputs}
@@ -149,6 +149,18 @@ module _ (laws : AreLaws) where
       let text = translated_of (made_text seed) unit (laws.short seed) translated in
       subst Reads (sym same) (summary_read unit text until supply.nexts supply.sizes (sized_of unit until supply text supplied) (no_inputs unit) no_script (are_no_inputs unit) most paced)
 
+  building_read : (files : Option Files) (name : List ℕ) (done : Service) → (building files name).gives done → Reads done
+  unfolding in_row
+  building_read files name done (unit, compiled, (image, imaged, same)) = subst Reads (sym same) (λ bounds. tt)
+
+  executing_read : (files : Option Files) (name : List ℕ) (until : ℕ) (inputs script : Option (List ℕ)) (done : Service) → (executing files name until inputs script).gives done → Reads done
+  unfolding in_row
+  executing_read files name until inputs script done (bytes, read, (it, spelled, (ways, checked, (supply, supplied, (lists, listed, (said, scripted, (paces, paced, same))))))) = subst Reads (sym same) (λ bounds. tt)
+
+  judging_read : (files : Option Files) (name : List ℕ) (until : ℕ) (trace : List ℕ) (script : Option (List ℕ)) (done : Service) → (judging files name until trace script).gives done → Reads done
+  unfolding in_row
+  judging_read files name until trace script done (unit, compiled, (supply, supplied, (text, read, (said, scripted, (paces, paced, (counts, legal, same)))))) = subst Reads (sym same) (λ bounds. tt)
+
   serving_read : (words : List (List ℕ)) (files : Option Files) (command : Command) (done : Service) → Asks words command → (serving files command).gives done → Reads done
   serving_read words files _ done (asks_run program date until is asked) gives = running_read files program until None None done asked.most gives
   serving_read words files _ done (asks_run_with_inputs program date inputs until is asked) gives = running_read files program until (Some inputs) None done asked.most gives
@@ -157,6 +169,12 @@ module _ (laws : AreLaws) where
   serving_read words files _ done (asks_graph program is) gives = drawing_read files program done gives
   serving_read words files _ done (asks_make number seed is asked) gives = subst Reads (sym gives) (λ bounds. tt)
   serving_read words files _ done (asks_trial number date seed until is seeded asked) gives = trying_read seed until done asked.most gives
+  serving_read words files _ done (asks_build program is) gives = building_read files program done gives
+  serving_read words files _ done (asks_exec image date until is asked) gives = executing_read files image until None None done gives
+  serving_read words files _ done (asks_exec_with_inputs image date inputs until is asked) gives = executing_read files image until (Some inputs) None done gives
+  serving_read words files _ done (asks_exec_with_script image date inputs script until is asked) gives = executing_read files image until (Some inputs) (Some script) done gives
+  serving_read words files _ done (asks_audit program date trace until is asked) gives = judging_read files program until trace None done gives
+  serving_read words files _ done (asks_audit_with_script program date trace script until is asked) gives = judging_read files program until trace (Some script) done gives
 
   -- Whatever words ask for is read back.
   pub answer_read : (words : List (List ℕ)) (files : Option Files) (done : Service) → (answering words files).gives done → IsReadBack done

@@ -6,6 +6,7 @@ use Rattle.psy_history.specs.Scripts.{in_force}
 use Rattle.psy_history.specs.declared.told.Order.{Order}
 use Rattle.psy_audit.specs.declared.said.Segment.{Segment}
 use Rattle.psy_audit.specs.declared.waits.Wait.{Wait}
+use Rattle.psy_audit.specs.Apart.{IsSteady}
 use Rattle.psy_audit.specs.Courses.{has_cycle, is_unfinished}
 use Rattle.psy_audit.specs.Waits.{is_waiting}
 use Rattle.psy_audit.proofs.Walks.{le_steady, lt_steady}
@@ -18,11 +19,6 @@ Apart from to m = from < m → to ≤ m
 pub record IsApart (from to : ℕ) (s : Segment) : Type 0 where
   pub first : Apart from to s.first
   pub past : Apart from to s.past
-
--- An action neither begins to wait nor ends between.
-pub record WaitsApart (from to : ℕ) (w : Wait) : Type 0 where
-  pub first : Apart from to w.from
-  pub past : Apart from to w.past
 
 -- An order doesn't come into force between.
 abbrev pub ComesApart : ℕ → ℕ → Order → Type 0
@@ -41,11 +37,11 @@ module _ (from to next : ℕ) (less : next ≤ to) where
       (All-weaker (IsApart from to) (IsApart from next) (λ x a. record { first = nearer x.first a.first; past = nearer x.past a.past }) (take i its) those)
       (record { first = first; past = past })
 
-  pub waits_more : (its : List Wait) (i : ℕ) (d : Wait) → i < length its → All (WaitsApart from to) (take i its)
-      → (from < (get_or its i d).past → next ≤ (get_or its i d).past) → (from < (get_or its i d).from → next ≤ (get_or its i d).from) → All (WaitsApart from next) (take (i + 1) its)
+  pub waits_more : (its : List Wait) (i : ℕ) (d : Wait) → i < length its → All (IsSteady from to) (take i its)
+      → (from < (get_or its i d).past → next ≤ (get_or its i d).past) → (from < (get_or its i d).from → next ≤ (get_or its i d).from) → All (IsSteady from next) (take (i + 1) its)
   waits_more its i d l those past first =
-      All-more (WaitsApart from next) its i d l
-      (All-weaker (WaitsApart from to) (WaitsApart from next) (λ x a. record { first = nearer x.from a.first; past = nearer x.past a.past }) (take i its) those)
+      All-more (IsSteady from next) its i d l
+      (All-weaker (IsSteady from to) (IsSteady from next) (λ x a. record { first = nearer x.from a.first; past = nearer x.past a.past }) (take i its) those)
       (record { first = first; past = past })
 
   pub comes_more : (its : List Order) (i : ℕ) (o : Order) → i < length its → o ≡ get_or its i o → All (ComesApart from to) (take i its) → ComesApart from next o
@@ -69,18 +65,18 @@ module _ (from to c : ℕ) (low : from ≤ c) (high : c < to) where
       ∙ ap (λ b. nat_le s.first from && b || list_any (has_cycle c) its) two
       ∙ ap (λ b. nat_le s.first from && nat_lt from s.past || b) rest
 
-  waiting_steady : (w : Wait) → WaitsApart from to w → is_waiting c w ≡ is_waiting from w
+  waiting_steady : (w : Wait) → IsSteady from to w → is_waiting c w ≡ is_waiting from w
   waiting_steady w this =
       let one : nat_le w.from c ≡ nat_le w.from from = le_steady w.from from c to low high this.first in
       let two : nat_lt c w.past ≡ nat_lt from w.past = lt_steady w.past from c to low high this.past in
       ap (λ b. b && (is_unfinished w.act.ending || nat_lt c w.past)) one
       ∙ ap (λ b. nat_le w.from from && (is_unfinished w.act.ending || b)) two
 
-  pub waits_steady : (its : List Wait) → All (WaitsApart from to) its → filter (is_waiting c) its ≡ filter (is_waiting from) its
+  pub waits_steady : (its : List Wait) → All (IsSteady from to) its → filter (is_waiting c) its ≡ filter (is_waiting from) its
   waits_steady [] all = refl
   waits_steady (w ∷ its) all =
-      let this : WaitsApart from to w = All-head (WaitsApart from to) w its all in
-      let rest = waits_steady its (All-tail (WaitsApart from to) w its all) in
+      let this : IsSteady from to w = All-head (IsSteady from to) w its all in
+      let rest = waits_steady its (All-tail (IsSteady from to) w its all) in
       ap (λ b. cond b (w ∷ filter (is_waiting c) its) (filter (is_waiting c) its)) (waiting_steady w this)
       ∙ ap (λ xs. cond (is_waiting from w) (w ∷ xs) xs) rest
 

@@ -12,7 +12,8 @@ use Rattle.psy_audit.specs.declared.said.Publication.{Publication}
 use Rattle.psy_audit.specs.Courses.{has_cycle}
 use Rattle.psy_audit.specs.Faults.{IsLegal}
 use Rattle.psy_audit.specs.Legal.{IsSeen}
-use Rattle.psy_audit.specs.Looks.{age_in, finds, is_look, is_look_of, is_value_of, slot_of}
+use Rattle.psy_audit.specs.Looks.{age_in, finds, is_look, is_look_of, is_value_of}
+use Rattle.psy_history.specs.Rings.{slot_of}
 use Rattle.psy_audit.specs.Traces.{Judged, Lines, acts, acts_of, looks, publications_of, publishing_in, ring_in, segments_of}
 use Rattle.psy_audit.proofs.Sound.{look_told, passes}
 use Rattle.psy_audit.proofs.Tests.{some}

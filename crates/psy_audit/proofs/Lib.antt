@@ -8,6 +8,8 @@ mod Judged
 mod LegalLooks
 mod LegalTurns
 mod Lengths
+mod Nearest
+mod Numbered
 mod Orders
 mod Places
 mod Plans

@@ -3,6 +3,7 @@ use Rattle.std.specs.Prelude.{◌≡◌, ℕ, ◌+◌, ◌-◌, ◌*◌, ◌/◌
 use Rattle.std.specs.List.{Contains}
 use Rattle.psy_clock.specs.Dates.{count}
 use Rattle.psy_history.specs.Processors.{processor_at}
+use Rattle.psy_history.specs.Rings.{slot_of}
 use Rattle.psy_meaning.specs.RingSizes.{dates_between}
 use Rattle.psy_meaning.specs.Timing.{budget_at}
 use Rattle.psy_tree.specs.Parts.{variable_at}
@@ -12,7 +13,6 @@ use Rattle.psy_audit.specs.declared.said.Look.{Look}
 use Rattle.psy_audit.specs.declared.said.Publication.{Publication}
 use Rattle.psy_audit.specs.declared.said.Segment.{Segment}
 use Rattle.psy_audit.specs.Courses.{cycles_in}
-use Rattle.psy_audit.specs.Looks.{slot_of}
 use Rattle.psy_audit.specs.Traces.{Judged, Lines, acts, publications_of, publishing_in, ring_in, segments_of, timing_in}
 use Rattle.psy_audit.specs.Turns.{is_pending_at}
 

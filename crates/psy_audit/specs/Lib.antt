@@ -1,5 +1,6 @@
 -- The definitions of this crate, by subject.
 pub mod Answers
+pub mod Apart
 pub mod Befores
 pub mod Courses
 pub mod Faults
@@ -9,8 +10,10 @@ pub mod Looks
 pub mod Places
 pub mod Publications
 pub mod Rows
+pub mod Spelled
 pub mod Tables
 pub mod Texts
+pub mod Traced
 pub mod Traces
 pub mod Turns
 pub mod Waits

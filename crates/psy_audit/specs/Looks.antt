@@ -1,8 +1,9 @@
 -- What is asked of the looks of a trace: that each reads the value published for the start of its action, from a place not yet overwritten.
-use Rattle.std.specs.Prelude.{ℕ, ◌+◌, ◌-◌, ◌*◌, ◌/◌, ◌%◌, Bool, false, ◌==◌, ◌&&◌, nat_lt, if◌then◌else◌, List, Option, Some, None, slice_get, ℤ}
+use Rattle.std.specs.Prelude.{ℕ, ◌+◌, ◌-◌, ◌/◌, Bool, false, ◌==◌, ◌&&◌, nat_lt, if◌then◌else◌, List, Option, Some, None, slice_get, ℤ}
 use Rattle.std.specs.List.{list_any}
 use Rattle.std.specs.Ordering.{int_eq}
 use Rattle.psy_clock.specs.Dates.{count}
+use Rattle.psy_history.specs.Rings.{slot_of}
 use Rattle.psy_meaning.specs.RingSizes.{dates_between}
 use Rattle.psy_tree.specs.Parts.{variable_at}
 use Rattle.psy_audit.specs.declared.said.Act.{Act}
@@ -11,11 +12,6 @@ use Rattle.psy_audit.specs.declared.said.Publication.{Publication}
 use Rattle.psy_audit.specs.declared.said.Segment.{Segment}
 use Rattle.psy_audit.specs.Courses.{has_cycle}
 use Rattle.psy_audit.specs.Traces.{Judged, Lines, acts_of, publications_of, publishing_in, ring_in, segments_of}
-
--- The place in a ring of the value of so many dates back, of those up to now: the publications have the places of their numbers modulo the size,
--- and the first values before them those that go before.
-abbrev pub slot_of : ℕ → ℕ → ℕ → ℕ
-slot_of size dates back = (dates + (size - 1) * (back + 1)) % size
 
 -- It is the value of this publication.
 abbrev pub is_value_of : ℤ → Option Publication → Bool

@@ -20,7 +20,7 @@ use crate::cycles::are_cycles;
 use crate::looks::is_look;
 use crate::publications::{are_published, is_number};
 use crate::said::{Act, Look, Publication, Said, Segment};
-use crate::table::{Table, acts_of, publications_of, segments_of};
+use crate::table::{Table, acts_of, publications_of, segments_near};
 use crate::tables::rows::segments_of_number;
 use crate::timing::first_of;
 use crate::turns::{is_over, is_served};
@@ -196,7 +196,11 @@ fn has_cycles(alloc: Global, table: &Table<'_>, act: &Act) -> Result<bool, Memor
     requires agent { act.now.agent < length table.now.plan.now.unit.agents }
     ensures { IfOk result (λ has. has ≡ has_cycles (judge table.now) table.now.lines.now act.now) }
 {
-    let its = segments_of_number(alloc, segments_of(table, act.agent), act.number)?;
+    let its = segments_of_number(
+        alloc,
+        segments_near(table, act.agent, act.number),
+        act.number,
+    )?;
     Ok(are_cycles(table.plan, its.as_slice(), act))
 }
 
@@ -245,7 +249,11 @@ fn has_look(alloc: Global, table: &Table<'_>, look: &Look) -> Result<bool, Memor
     requires variable { look.now.variable < length table.now.plan.now.unit.variables }
     ensures { IfOk result (λ has. has ≡ is_look (judge table.now) table.now.lines.now look.now) }
 {
-    let its = segments_of_number(alloc, segments_of(table, look.agent), look.number)?;
+    let its = segments_of_number(
+        alloc,
+        segments_near(table, look.agent, look.number),
+        look.number,
+    )?;
     Ok(is_look(
         table.plan,
         acts_of(table, look.agent),

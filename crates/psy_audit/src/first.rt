@@ -1,6 +1,7 @@
 //! Which action of a processor comes first at a cycle, and up to which cycle it stays so.
 ghost use Rattle.std.specs.Prelude.{◌≡◌, ◌<◌, ◌≤◌, ◌==◌, ℕ, List, Some, None, if◌then◌else◌, length};
 ghost use Rattle.std.specs.List.{All};
+ghost use Rattle.psy_audit.specs.Apart.{IsSteady};
 ghost use Rattle.psy_audit.specs.Rows.{first_in, sooner_or, waits_at};
 ghost use Rattle.psy_audit.specs.Turns.{soonest_of, sooner_of};
 ghost use Rattle.psy_audit.specs.Waits.{is_waiting, pending_in};
@@ -47,18 +48,20 @@ fn first_of(
     ensures { result ≡ (if processor_at plan.now.unit agent == processor then soonest_of (pending_in cycle (waits_at rows.now agent)) else None) }
 {
     if u64::from(processor_of(&plan.unit, agent)) == processor {
-        soonest(waits_at(rows, agent), cycle)
+        soonest(waits_near(rows, agent, cycle), cycle)
     } else {
         None
     }
 }
 
-// The actions of the agent of a number as they wait.
-fn waits_at(rows: &Items<AgentRow>, agent: u32) -> &[Wait]
-    ensures { result.now ≡ waits_at rows.now agent }
+// Of the actions of the agent of a number those that tell which are pending at a cycle, and how long they stay so.
+fn waits_near(rows: &Items<AgentRow>, agent: u32, cycle: u64) -> &[Wait]
+    ensures now { pending_in cycle result.now ≡ pending_in cycle (waits_at rows.now agent) }
+    ensures steady { (to c : ℕ) → cycle ≤ c → c < to → All (IsSteady cycle to) result.now
+        → pending_in c (waits_at rows.now agent) ≡ pending_in cycle (waits_at rows.now agent) }
 {
     match rows.get(agent as usize) {
-        Some(row) => row.waits.as_slice(),
+        Some(row) => row.waits.near(cycle),
         None => &[],
     }
 }
@@ -152,7 +155,7 @@ fn next_of(
         → pending_in c (waits_at rows.now agent) ≡ pending_in cycle (waits_at rows.now agent) }
 {
     if u64::from(processor_of(&plan.unit, agent)) == processor {
-        next_wait(waits_at(rows, agent), cycle, to)
+        next_wait(waits_near(rows, agent, cycle), cycle, to)
     } else {
         to
     }
@@ -163,7 +166,7 @@ fn next_wait(waits: &[Wait], cycle: u64, to: u64) -> u64
     requires { cycle < to }
     ensures behind { cycle < result }
     ensures within { result ≤ to }
-    ensures same { (c : ℕ) → cycle ≤ c → c < result → pending_in c waits.now ≡ pending_in cycle waits.now }
+    ensures steady { All (IsSteady cycle result) waits.now }
 {
     let mut next = to;
     'waits: for wait in waits {

@@ -1,8 +1,9 @@
 //! What a trace of processors is, line by line, and when it is legal: who ran when, what was published, and what was looked at; and the judge of a trace of any
-//! origin, apart from any run. No command writes or judges one yet.
+//! origin, apart from any run. `psyc audit` asks it.
 //! It may know plans and scripts, the history's definitions and the words of lines; no code of agents, no kernel.
 #![tactic(auto)]
 
+mod apart;
 mod before;
 mod courses;
 mod cycles;
@@ -15,6 +16,7 @@ mod publications;
 mod read;
 mod rows;
 mod said;
+mod stretches;
 mod table;
 mod tables;
 mod timing;

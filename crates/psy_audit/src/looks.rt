@@ -3,7 +3,8 @@ ghost use Rattle.std.specs.Prelude.{◌≡◌, ◌==◌, ◌&&◌, ◌-◌, ◌<
 ghost use Rattle.std.specs.List.{list_any};
 ghost use Rattle.std.specs.Ordering.{int_eq};
 ghost use Rattle.psy_audit.specs.Judging.{HasRings, untied};
-ghost use Rattle.psy_audit.specs.Looks.{age_in, finds, is_look_with, is_value_of, slot_of};
+ghost use Rattle.psy_audit.specs.Looks.{age_in, finds, is_look_with, is_value_of};
+ghost use Rattle.psy_history.specs.Rings.{slot_of};
 ghost use Rattle.psy_audit.specs.Traces.{publishing_in, ring_in};
 ghost use Rattle.psy_clock.specs.Dates.{count};
 ghost use Rattle.psy_tree.specs.Parts.{variable_at};

@@ -5,9 +5,11 @@ ghost use Rattle.psy_audit.specs.Judging.{untied};
 ghost use Rattle.psy_audit.specs.Rows.{row_in};
 ghost use Rattle.psy_audit.specs.Traces.{Lines, acts as acts_told, segments as segments_told};
 
+use crate::apart::Waits;
 use crate::said::{Act, Segment};
+use crate::stretches::Stretches;
 use crate::tables::rows::{acts_of, segments_of_agent};
-use crate::waits::{Wait, waits_of};
+use crate::waits::waits_of;
 use psy_base::{Items, Memory};
 use psy_dates::Plan;
 use std::alloc::Global;
@@ -16,8 +18,8 @@ use std::alloc::Global;
 #[derive(Drop)]
 pub struct AgentRow {
     pub acts: Items<Act>,
-    pub segments: Items<Segment>,
-    pub waits: Items<Wait>,
+    pub segments: Stretches,
+    pub waits: Waits,
 }
 
 /// By agent, what a trace tells of it, where these are the trace's actions and stretches.
@@ -50,7 +52,7 @@ fn row_of(
 {
     let acts = acts_of(alloc, acts, agent)?;
     let segments = segments_of_agent(alloc, segments, agent)?;
-    let waits = waits_of(alloc, plan, acts.as_slice(), segments.as_slice())?;
+    let waits = waits_of(alloc, plan, acts.as_slice(), &segments)?;
     Ok(AgentRow {
         acts,
         segments,

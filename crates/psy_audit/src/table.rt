@@ -34,14 +34,15 @@ pub fn acts_of<'a>(table: &Table<'a>, agent: u32) -> &'a [Act]
     }
 }
 
-/// The stretches of an agent.
-pub fn segments_of<'a>(table: &Table<'a>, agent: u32) -> &'a [Segment]
+/// Some of the stretches of an agent, of which those of the action of a number are those of all.
+pub fn segments_near<'a>(table: &Table<'a>, agent: u32, number: u64) -> &'a [Segment]
     requires table { IsTable table.now }
     requires agent { agent < length table.now.plan.now.unit.agents }
-    ensures { result.now ≡ filter (λ (s : Stretch). s.agent == agent) (segments table.now.lines.now) }
+    ensures { filter (λ (s : Stretch). s.number == number) result.now
+        ≡ filter (λ (s : Stretch). s.number == number) (filter (λ (s : Stretch). s.agent == agent) (segments table.now.lines.now)) }
 {
     match table.rows.get(agent as usize) {
-        Some(row) => row.segments.as_slice(),
+        Some(row) => row.segments.near(number),
         None => &[],
     }
 }

@@ -6,10 +6,12 @@ ghost use Rattle.psy_audit.specs.Waits.{end_in, is_waiting, past_in, wait_in};
 ghost use Rattle.psy_audit.specs.declared.said.Act.{Act as Action};
 ghost use Rattle.psy_audit.specs.declared.said.Segment.{Segment as Stretch};
 
+use crate::apart::Waits;
 use crate::cycles::{is_filled, is_unfinished};
 use crate::said::{Act, Segment};
+use crate::stretches::Stretches;
 use crate::tables::rows::segments_of_number;
-use psy_base::{Items, Memory};
+use psy_base::Memory;
 use psy_dates::Plan;
 use std::alloc::Global;
 
@@ -28,14 +30,14 @@ pub fn waits_of(
     alloc: Global,
     plan: &Plan,
     acts: &[Act],
-    segments: &[Segment],
-) -> Result<Items<Wait>, Memory>
+    segments: &Stretches,
+) -> Result<Waits, Memory>
     ensures { IfOk result (λ waits. waits
         ≡ map (λ (a : Action). wait_in (untied plan.now) (filter (λ (s : Stretch). s.number == a.number) segments.now) a) acts.now) }
 {
-    let mut waits = Items::new(alloc);
+    let mut waits = Waits::new(alloc);
     'acts: for act in acts {
-        let its = segments_of_number(alloc, segments, act.number)?;
+        let its = segments_of_number(alloc, segments.near(act.number), act.number)?;
         waits.push(wait_of(plan, its.as_slice(), act))?;
     }
     Ok(waits)

@@ -24,9 +24,9 @@ frame_size code function = cells_of code (Function function) + counters_of code 
 
 -- ---- functions that are counted
 
--- There is the function, and its own ways find what they pop: it has no fault of height of its own.
+-- There is the function, and its own ways find what they pop: it has no fault of height of its own, at any place of the code.
 abbrev pub IsCounted : Code → ℕ → Type 0
-IsCounted code function = (function < length code.functions) × ((place : ℕ) → IsBalanced code (Function function) place)
+IsCounted code function = (function < length code.functions) × ((place : ℕ) → place < length code.instrs → IsBalanced code (Function function) place)
 
 -- A way of the owner comes to a call of a function, which leaves so many operands below the arguments.
 abbrev pub Calls : Code → Owner → ℕ → ℕ → ℕ → Type 0

@@ -1,11 +1,11 @@
 -- Reading by a format is exact: what is read is spelled so, what is spelled so is read, and a bad field is the first one.
-use Rattle.std.proofs.Common.{◌≡◌, ◌∙◌, ◌↔◌, ℕ, List, length, Result, Ok, Err, refl, sym, ap, subst}
+use Rattle.std.proofs.Common.{◌≡◌, ◌∙◌, ◌↔◌, ◌⊎◌, ℕ, List, length, Result, Ok, Err, inl, inr, refl, sym, ap, subst}
 use Rattle.psy_image.specs.Fields.{AreBytes, Field, Value, Takes}
 use Rattle.psy_image.specs.Formats.{Format, Done, Then, Here, Refuse, Spells, IsBad}
 use Rattle.psy_image.specs.Formats.IsBad.{missing, behind, further, refused}
 use Rattle.psy_image.specs.Formats.Spells.{done, then_, here}
 use Rattle.psy_image.specs.Reading.{go_on, field_at, read}
-use Rattle.psy_image.proofs.FieldsRead.{field_again, field_err, field_ok}
+use Rattle.psy_image.proofs.FieldsRead.{field_again, field_err, field_ok, ok_is}
 
 -- ---- what is read is spelled so
 
@@ -66,3 +66,48 @@ read_is F bytes a rest fits = ((λ e. (subst (λ r. Says r F bytes) e (says F by
 
 pub read_bad : {A : Type 0} (F : Format A) (bytes : List ℕ) (left : ℕ) → AreBytes bytes → (read F bytes ≡ Err left ↔ IsBad F bytes left)
 read_bad F bytes left fits = ((λ e. subst (λ r. Says r F bytes) e (says F bytes fits)), bad F bytes left fits)
+
+-- ---- one bad field
+
+-- Where bytes are bad, by the format: its first field isn't there, or what follows it is bad.
+abbrev IsBadBy : {A : Type 0} → Format A → List ℕ → ℕ → Type 0
+IsBadBy (Done a) bytes left = ⊥
+IsBadBy (Then f more) bytes left =
+    (((v : Value f) (rest : List ℕ) → Takes f v bytes rest → ⊥) × (left ≡ length bytes)) ⊎ ((x : Value f × List ℕ) × Takes f x.0 bytes x.1 × IsBad (more x.0) x.1 left)
+IsBadBy (Here more) bytes left = IsBad (more (length bytes)) bytes left
+IsBadBy (Refuse at) bytes left = left ≡ at
+
+bad_by : {A : Type 0} (F : Format A) (bytes : List ℕ) (left : ℕ) → IsBad F bytes left → IsBadBy F bytes left
+bad_by F bytes left (missing f more _ none) = inl (none, refl)
+bad_by F bytes left (behind f more v _ middle _ takes inner) = inr ((v, middle), takes, inner)
+bad_by F bytes left (further more _ _ inner) = inner
+bad_by F bytes left (refused _ _) = refl
+
+-- Bytes begin with a field in one way.
+one_taken : (f : Field) (x y : Value f × List ℕ) (bytes : List ℕ) → Takes f x.0 bytes x.1 → Takes f y.0 bytes y.1 → x ≡ y
+one_taken f x y bytes this that = ok_is x y (sym (field_again f x.0 bytes x.1 this) ∙ field_again f y.0 bytes y.1 that)
+
+-- Bytes are bad at one place, whatever numbers they are.
+pub one_bad : {A : Type 0} (F : Format A) (bytes : List ℕ) (left other : ℕ) → IsBad F bytes left → IsBad F bytes other → left ≡ other
+one_bad (Done a) bytes left other h g = absurd (bad_by (Done a) bytes left h)
+one_bad (Then f more) bytes left other h g = elim (bad_by (Then f more) bytes left h) [
+  | inl (none, at) ↦ elim (bad_by (Then f more) bytes other g) [
+    | inl (nothing, there) ↦ at ∙ sym there
+    | inr (y, takes, inner) ↦ absurd (none y.0 y.1 takes)
+  ]
+  | inr (x, taken, bad_behind) ↦ elim (bad_by (Then f more) bytes other g) [
+    | inl (none, at) ↦ absurd (none x.0 x.1 taken)
+    | inr (y, takes, inner) ↦ one_bad (more x.0) x.1 left other bad_behind (subst (λ (z : Value f × List ℕ). IsBad (more z.0) z.1 other) (sym (one_taken f x y bytes taken takes)) inner)
+  ]
+]
+one_bad (Here more) bytes left other h g = one_bad (more (length bytes)) bytes left other (bad_by (Here more) bytes left h) (bad_by (Here more) bytes other g)
+one_bad (Refuse at) bytes left other h g = bad_by (Refuse at) bytes left h ∙ sym (bad_by (Refuse at) bytes other g)
+
+-- What bytes spell isn't bad.
+pub spelled_not_bad : {A : Type 0} (F : Format A) (bytes : List ℕ) (a : A) (rest : List ℕ) (left : ℕ) → Spells F bytes a rest → IsBad F bytes left → ⊥
+spelled_not_bad F bytes a rest left (done _ _) g = bad_by (Done a) bytes left g
+spelled_not_bad F bytes a rest left (then_ f more v _ middle _ _ takes inner) g = elim (bad_by (Then f more) bytes left g) [
+  | inl (none, at) ↦ none v middle takes
+  | inr (y, taken, bad_behind) ↦ spelled_not_bad (more v) middle a rest left inner (subst (λ (z : Value f × List ℕ). IsBad (more z.0) z.1 left) (sym (one_taken f (v, middle) y bytes takes taken)) bad_behind)
+]
+spelled_not_bad F bytes a rest left (here more _ _ _ inner) g = spelled_not_bad (more (length bytes)) bytes a rest left inner (bad_by (Here more) bytes left g)

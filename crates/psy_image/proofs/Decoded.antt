@@ -11,7 +11,7 @@ use Rattle.psy_image.specs.Fields.{AreBytes, Field, Value, Number, These, End}
 use Rattle.psy_image.specs.Formats.{Format, Done, Then, IsBad, Spells, ◌>>=◌}
 use Rattle.psy_image.specs.Images.{agents, clocks, functions, image, instrs, spells_image, streams, variables}
 use Rattle.psy_image.specs.Reading.{Gives, field_at, read}
-use Rattle.psy_image.proofs.Both.{Says, says, spelled, bad}
+use Rattle.psy_image.proofs.Both.{Says, says, spelled, bad, one_bad, spelled_not_bad}
 use Rattle.psy_image.proofs.Bounds.{Within, kept, kept_spelled}
 use Rattle.psy_image.proofs.Exact.{read_then}
 use Rattle.psy_image.proofs.FieldsRead.{go_on_ok, ok_is}
@@ -74,16 +74,13 @@ pub one_image : (bytes : List ℕ) (it other : Image) → spells_image it bytes 
 unfolding spells_image
 one_image bytes it other h g = let same : whole it ≡ whole other = sym (spelled image bytes it [] h) ∙ spelled image bytes other [] g in ap (λ p. p.0) (ok_is (it, []) (other, []) same)
 
-pub one_place : (bytes : List ℕ) (place elsewhere : ℕ) → AreBytes bytes → IsBadAt bytes place → IsBadAt bytes elsewhere → place ≡ elsewhere
+pub one_place : (bytes : List ℕ) (place elsewhere : ℕ) → IsBadAt bytes place → IsBadAt bytes elsewhere → place ≡ elsewhere
 unfolding IsBadAt
-one_place bytes place elsewhere fits (left, count, h) (other, total, g) =
-    let same : refused left ≡ refused other = sym (bad image bytes left fits h) ∙ bad image bytes other fits g in
-    let is : left ≡ other = cc in
-    omega (arith, count, total, is)
+one_place bytes place elsewhere (left, count, h) (other, total, g) = let is = one_bad image bytes left other h g in omega (arith, count, total, is)
 
-pub not_both : (bytes : List ℕ) (it : Image) (place : ℕ) → AreBytes bytes → spells_image it bytes → IsBadAt bytes place → ⊥
+pub not_both : (bytes : List ℕ) (it : Image) (place : ℕ) → spells_image it bytes → IsBadAt bytes place → ⊥
 unfolding spells_image IsBadAt
-not_both bytes it place fits h (left, count, g) = let no : whole it ≡ refused left = sym (spelled image bytes it [] h) ∙ bad image bytes left fits g in cc
+not_both bytes it place h (left, count, g) = spelled_not_bad image bytes it [] left h g
 
 -- All that is read by the format ends where the bytes do.
 record EndsAll {A : Type 0} (F : Format A) : Type 0 where

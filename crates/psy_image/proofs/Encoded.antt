@@ -23,6 +23,9 @@ same_bytes unit code = rw (same_agents unit.agents code.agents) refl
 pub is_bytes : (unit : Whole) (code : Code) (bytes : List ℕ) → spells_image (image_of unit code) bytes → bytes ≡ image_bytes unit code
 is_bytes unit code bytes h = spelled_bytes bytes (image_of unit code) h ∙ same_bytes unit code
 
+pub one_text : (unit : Whole) (code : Code) (bytes other : List ℕ) → spells_image (image_of unit code) bytes → spells_image (image_of unit code) other → bytes ≡ other
+one_text unit code bytes other h g = is_bytes unit code bytes h ∙ sym (is_bytes unit code other g)
+
 pub written_spells : (unit : Whole) (code : Code) (out : List ℕ) → KeepRanges unit code → out ≡ image_bytes unit code → spells_image (image_of unit code) out
 unfolding KeepRanges
 written_spells unit code out (bytes, h) is = subst (spells_image (image_of unit code)) (is_bytes unit code bytes h ∙ sym is) h

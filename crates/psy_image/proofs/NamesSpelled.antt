@@ -1,12 +1,11 @@
 -- A text is a name exactly where it spells a token that is a name.
-use Rattle.std.proofs.Common.{◌≡◌, ◌∙◌, ◌↔◌, ◌&&◌, ℕ, zero, suc, Bool, true, false, cond, List, [], ◌∷◌, length, bytes_eq, Option, Some, None, refl, sym, ap}
-use Rattle.std.specs.Prelude.{is_none, nat_le, slice_get}
+use Rattle.std.proofs.Common.{◌≡◌, ◌∙◌, ◌↔◌, ◌&&◌, ℕ, Bool, true, false, cond, List, [], ◌∷◌, length, bytes_eq, Option, Some, None, refl, sym, ap}
+use Rattle.std.specs.Prelude.{is_none, nat_le}
 use Rattle.std.specs.List.{find, list_all}
 use Rattle.std.proofs.lemmas.Bool.{false≢true, leb-true, le-leb}
 use Rattle.std.proofs.lemmas.Slice.Eq.{bytes_eq-Decides}
 use Rattle.psy_base.specs.declared.limits.TheConstants.{WORD_BYTES}
 use Rattle.psy_lists.proofs.lemmas.Tests.{both, each_of_both}
-use Rattle.psy_image.specs.declared.names.TheConstants.{RESERVED}
 use Rattle.psy_token.specs.Reading.{reserved}
 use Rattle.psy_tree.specs.declared.token.Kind.TheVariants as kinds
 use Rattle.psy_tree.specs.declared.token.Word.{Word}
@@ -34,82 +33,40 @@ is_a_word (b ∷ rest) h = both (begins_word b) (list_all is_in_word rest) h.0 (
 
 -- ---- reserved words
 
-place : Word → ℕ
-place words.Advance = 0
-place words.After = 1
-place words.Agent = 2
-place words.Body = 3
-place words.Budget = 4
-place words.Clock = 5
-place words.Depth = 6
-place words.Else = 7
-place words.If = 8
-place words.Input = 9
-place words.Int = 10
-place words.Int8 = 11
-place words.Int16 = 12
-place words.Int32 = 13
-place words.Int64 = 14
-place words.Keep = 15
-place words.Max = 16
-place words.Of = 17
-place words.On = 18
-place words.Past = 19
-place words.Processor = 20
-place words.Ready = 21
-place words.Return = 22
-place words.Send = 23
-place words.Stream = 24
-place words.Take = 25
-place words.Temporal = 26
-place words.Tick = 27
-place words.To = 28
-place words.While = 29
+-- A reserved word is found by its spelling.
+spelled_word : (word : Word) → reserved (word_spelling word) ≡ Some word
+spelled_word words.Advance = refl
+spelled_word words.After = refl
+spelled_word words.Agent = refl
+spelled_word words.Body = refl
+spelled_word words.Budget = refl
+spelled_word words.Clock = refl
+spelled_word words.Depth = refl
+spelled_word words.Else = refl
+spelled_word words.If = refl
+spelled_word words.Input = refl
+spelled_word words.Int = refl
+spelled_word words.Int8 = refl
+spelled_word words.Int16 = refl
+spelled_word words.Int32 = refl
+spelled_word words.Int64 = refl
+spelled_word words.Keep = refl
+spelled_word words.Max = refl
+spelled_word words.Of = refl
+spelled_word words.On = refl
+spelled_word words.Past = refl
+spelled_word words.Processor = refl
+spelled_word words.Ready = refl
+spelled_word words.Return = refl
+spelled_word words.Send = refl
+spelled_word words.Stream = refl
+spelled_word words.Take = refl
+spelled_word words.Temporal = refl
+spelled_word words.Tick = refl
+spelled_word words.To = refl
+spelled_word words.While = refl
 
-placed : (word : Word) → slice_get RESERVED (place word) ≡ Some word
-unfolding place
-placed words.Advance = refl
-placed words.After = refl
-placed words.Agent = refl
-placed words.Body = refl
-placed words.Budget = refl
-placed words.Clock = refl
-placed words.Depth = refl
-placed words.Else = refl
-placed words.If = refl
-placed words.Input = refl
-placed words.Int = refl
-placed words.Int8 = refl
-placed words.Int16 = refl
-placed words.Int32 = refl
-placed words.Int64 = refl
-placed words.Keep = refl
-placed words.Max = refl
-placed words.Of = refl
-placed words.On = refl
-placed words.Past = refl
-placed words.Processor = refl
-placed words.Ready = refl
-placed words.Return = refl
-placed words.Send = refl
-placed words.Stream = refl
-placed words.Take = refl
-placed words.Temporal = refl
-placed words.Tick = refl
-placed words.To = refl
-placed words.While = refl
-
--- What is found, or that nothing is
-missed_by : (p : Word → Bool) (x word : Word) (xs : List Word) (i : ℕ) → slice_get (x ∷ xs) i ≡ Some word → p word ≡ true
-    → ((j : ℕ) → slice_get xs j ≡ Some word → find p xs ≡ None → ⊥) → (b : Bool) → p x ≡ b → cond b (Some x) (find p xs) ≡ None → ⊥
-missed_by p x word xs i at passes later true e none = cc
-missed_by p x word xs zero at passes later false e none = let same : x ≡ word = cc in false≢true (sym e ∙ ap p same ∙ passes)
-missed_by p x word xs (suc i) at passes later false e none = later i at none
-
-missed : (p : Word → Bool) (xs : List Word) (i : ℕ) (word : Word) → slice_get xs i ≡ Some word → p word ≡ true → find p xs ≡ None → ⊥
-missed p [] i word at passes none = cc
-missed p (x ∷ xs) i word at passes none = missed_by p x word xs i at passes (λ j there left. missed p xs j word there passes left) (p x) refl none
-
+-- What is found passes.
 found_by : (p : Word → Bool) (x word : Word) (xs : List Word) → (find p xs ≡ Some word → p word ≡ true) → (b : Bool) → p x ≡ b → cond b (Some x) (find p xs) ≡ Some word → p word ≡ true
 found_by p x word xs later true e is = let same : x ≡ word = cc in ap p (sym same) ∙ e
 found_by p x word xs later false e is = later is
@@ -119,19 +76,23 @@ found p [] word e = absurd cc
 found p (x ∷ xs) word e = found_by p x word xs (λ h. found p xs word h) (p x) refl e
 
 not_reserved : (text : List ℕ) → is_none (reserved text) ≡ true → (word : Word) → text ≡ word_spelling word → ⊥
-not_reserved text none word is =
-    missed (λ w. bytes_eq (word_spelling w) text) RESERVED (place word) word (placed word) ((bytes_eq-Decides (word_spelling word) text).1 (sym is)) (nothing (reserved text) none)
-  where
-    nothing : (o : Option Word) → is_none o ≡ true → o ≡ None
-    nothing None e = refl
-    nothing (Some w) e = absurd (false≢true e)
+not_reserved text none word is = false≢true (sym (ap is_none (ap reserved is ∙ spelled_word word)) ∙ none)
+
+-- All reserved words
+abbrev every : List Word
+every = words.Advance ∷ words.After ∷ words.Agent ∷ words.Body ∷ words.Budget ∷ words.Clock ∷ words.Depth ∷ words.Else ∷ words.If ∷ words.Input
+    ∷ words.Int ∷ words.Int8 ∷ words.Int16 ∷ words.Int32 ∷ words.Int64 ∷ words.Keep ∷ words.Max ∷ words.Of ∷ words.On ∷ words.Past
+    ∷ words.Processor ∷ words.Ready ∷ words.Return ∷ words.Send ∷ words.Stream ∷ words.Take ∷ words.Temporal ∷ words.Tick ∷ words.To ∷ words.While ∷ []
+
+found_word : (text : List ℕ) (word : Word) → reserved text ≡ Some word → bytes_eq (word_spelling word) text ≡ true
+found_word text word e = found (λ w. bytes_eq (word_spelling w) text) every word e
 
 is_free : (text : List ℕ) → ((word : Word) → text ≡ word_spelling word → ⊥) → is_none (reserved text) ≡ true
 is_free text free = by (reserved text) refl
   where
     by : (o : Option Word) → reserved text ≡ o → is_none o ≡ true
     by None e = refl
-    by (Some word) e = absurd (free word (sym ((bytes_eq-Decides (word_spelling word) text).0 (found (λ w. bytes_eq (word_spelling w) text) RESERVED word e))))
+    by (Some word) e = absurd (free word (sym ((bytes_eq-Decides (word_spelling word) text).0 (found_word text word e))))
 
 -- ---- names
 

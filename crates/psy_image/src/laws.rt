@@ -1,5 +1,6 @@
 //! Laws: of the definitions, each the contract of a function that does nothing, and of both calls together.
 ghost use Rattle.std.specs.Prelude.{◌≡◌, ◌≤◌, ◌⊎◌, ◌↔◌, IfOk, List, ℕ, Ok, Err, length, true};
+ghost use Rattle.psy_code.specs.declared.code.Code.{Code as code_type};
 ghost use Rattle.psy_image.specs.declared.image.Image.{Image as image_type};
 ghost use Rattle.psy_image.specs.Answers.{IsBadAt, KeepRanges, emptied, image_of};
 ghost use Rattle.psy_image.specs.Fields.{AreBytes};
@@ -8,6 +9,7 @@ ghost use Rattle.psy_image.specs.Images.{spells_image};
 ghost use Rattle.psy_image.specs.Names.{is_name};
 ghost use Rattle.psy_image.specs.Reading.{read};
 ghost use Rattle.psy_tree.specs.declared.token.Kind.TheVariants as kinds;
+ghost use Rattle.psy_tree.specs.declared.unit.Unit.{Unit as Whole};
 ghost use Rattle.psy_tree.specs.Lexemes.{IsSpelling};
 
 use crate::decoding::decode;
@@ -28,8 +30,8 @@ pub fn formats<A>()
 pub fn one_image()
     ensures either { (bytes : List ℕ) → AreBytes bytes → ((it : image_type) × spells_image it bytes) ⊎ ((place : ℕ) × IsBadAt bytes place) }
     ensures image { (bytes : List ℕ) (it other : image_type) → spells_image it bytes → spells_image other bytes → it ≡ other }
-    ensures place { (bytes : List ℕ) (place elsewhere : ℕ) → AreBytes bytes → IsBadAt bytes place → IsBadAt bytes elsewhere → place ≡ elsewhere }
-    ensures not_both { (bytes : List ℕ) (it : image_type) (place : ℕ) → AreBytes bytes → spells_image it bytes → IsBadAt bytes place → ⊥ }
+    ensures place { (bytes : List ℕ) (place elsewhere : ℕ) → IsBadAt bytes place → IsBadAt bytes elsewhere → place ≡ elsewhere }
+    ensures not_both { (bytes : List ℕ) (it : image_type) (place : ℕ) → spells_image it bytes → IsBadAt bytes place → ⊥ }
     // Its unit has no statements, no slots and no functions.
     ensures emptied { (bytes : List ℕ) (it : image_type) → spells_image it bytes → it.unit ≡ emptied it.unit }
     ensures within { (bytes : List ℕ) (place : ℕ) → IsBadAt bytes place → place ≤ length bytes }
@@ -40,6 +42,12 @@ pub fn one_image()
 pub fn kept()
     ensures ranges { (bytes : List ℕ) (it : image_type) → spells_image it bytes → KeepRanges it.unit it.code }
     ensures again { (bytes : List ℕ) (it : image_type) → spells_image it bytes → image_of it.unit it.code ≡ it }
+{}
+
+/// A unit and a code are spelled by one list of bytes at most.
+pub fn one_text()
+    ensures { (unit : Whole) (code : code_type) (bytes other : List ℕ) → spells_image (image_of unit code) bytes
+        → spells_image (image_of unit code) other → bytes ≡ other }
 {}
 
 /// A text is a name exactly where it spells a token that is a name.

@@ -18,8 +18,10 @@ mod numbers;
 mod seen;
 mod spelling;
 
+pub use agents::AgentLists;
 pub use decoding::decode;
 pub use encoding::encode;
 pub use fault::ImageFault;
 pub use image::Image;
 pub use numbers::number;
+pub use seen::{Claim, Seen};

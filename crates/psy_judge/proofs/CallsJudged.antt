@@ -11,13 +11,14 @@ use Rattle.psy_code.specs.declared.instr.Instr.{Instr}
 use Rattle.psy_code.specs.declared.instr.Instr.TheVariants as instr
 use Rattle.psy_meaning.specs.CodeWays.{agent_code_at}
 use Rattle.psy_meaning.specs.Sound.{Each}
+use Rattle.psy_flow.specs.Owners.{Agent, Function, IsReached, Owner, function_code_at}
+use Rattle.psy_flow.specs.Heights.{Finds, IsBalanced, IsHeight, Shift, past_call, shifts}
+use Rattle.psy_flow.specs.Needs.{Calls, FitsFrames, FitsStack, IsCounted, MayHold, MayUse}
+use Rattle.psy_flow.proofs.lemmas.Shifted.{function_there}
 use Rattle.psy_judge.specs.declared.heights.Top.{Top}
 use Rattle.psy_judge.specs.declared.heights.Top.TheVariants as top
 use Rattle.psy_judge.specs.declared.needs.Need.{Need}
 use Rattle.psy_judge.specs.declared.steps.Steps.{Steps}
-use Rattle.psy_judge.specs.Owners.{Agent, Function, IsReached, Owner, function_code_at}
-use Rattle.psy_judge.specs.Heights.{Finds, IsBalanced, IsHeight, Shift, past_call, shifts}
-use Rattle.psy_judge.specs.Needs.{Calls, FitsFrames, FitsStack, IsCounted, MayHold, MayUse}
 use Rattle.psy_judge.specs.Highest.{AreTops, shifts_of, top_at}
 use Rattle.psy_judge.specs.Judged.{Judges}
 use Rattle.psy_judge.specs.Judging.{AreNeeds, AreReached, FitsFramesOf, FitsStackOf, IsNeed, IsNeedOf, IsTop}
@@ -25,7 +26,6 @@ use Rattle.psy_judge.specs.Deciding.{balanced_by, call_fits, called, finds_by, f
 use Rattle.psy_judge.proofs.InstrJudged.{finds_tells}
 use Rattle.psy_judge.proofs.JudgedBools.{fails, holds, judge_and, judge_if, judge_le}
 use Rattle.psy_judge.proofs.RowsTaken.{reached_at}
-use Rattle.psy_judge.proofs.Shifted.{function_there}
 
 -- An instruction that calls is a call.
 pub call_is : (i : Instr) (f : ℕ) → called i ≡ Some f → i ≡ instr.Call f

@@ -8,8 +8,8 @@ use Rattle.psy_lists.proofs.lemmas.Tests.{or_right}
 use Rattle.psy_code.specs.declared.instr.Instr.{Instr}
 use Rattle.psy_code.specs.declared.instr.Instr.TheVariants as instr
 use Rattle.psy_meaning.specs.CodeWays.{GoesOn, IsCodeWay, ends, goes}
+use Rattle.psy_flow.specs.Verified.{HasEnd}
 use Rattle.psy_judge.specs.Ending.{AreEnds, IsFoundEnd, IsPass, ends_by, marked_in}
-use Rattle.psy_judge.specs.Verified.{HasEnd}
 use Rattle.psy_judge.specs.Walked.{onward_of, unmarked}
 use Rattle.psy_judge.proofs.JudgedBools.{judge_eq, known, or_left}
 use Rattle.psy_judge.proofs.OnwardOf.{IsOneOf, goes_if, one_of}

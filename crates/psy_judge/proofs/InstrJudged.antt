@@ -12,12 +12,12 @@ use Rattle.psy_tree.specs.declared.unit.Unit.{Unit as Whole}
 use Rattle.psy_tree.specs.declared.unit.VarDecl.{VarDecl}
 use Rattle.psy_meaning.specs.CodeWays.{GoesOn, agent_code_at}
 use Rattle.psy_meaning.specs.Sound.{Each}
+use Rattle.psy_flow.specs.Owners.{Agent, Function, Owner}
+use Rattle.psy_flow.specs.Heights.{Finds, Shift, shifts}
+use Rattle.psy_flow.specs.Needs.{cells_of, counters_of}
+use Rattle.psy_flow.specs.Verified.{Hears, IsFramed, IsLed, IsNamed, IsOrdered, Owns, Reaches}
 use Rattle.psy_judge.specs.declared.steps.Step.{Step}
 use Rattle.psy_judge.specs.declared.steps.Steps.{Steps}
-use Rattle.psy_judge.specs.Owners.{Agent, Function, Owner}
-use Rattle.psy_judge.specs.Heights.{Finds, Shift, shifts}
-use Rattle.psy_judge.specs.Needs.{cells_of, counters_of}
-use Rattle.psy_judge.specs.Verified.{Hears, IsFramed, IsLed, IsNamed, IsOrdered, Owns, Reaches}
 use Rattle.psy_judge.specs.Walked.{onward_of}
 use Rattle.psy_judge.specs.Highest.{shift_of, shifts_of}
 use Rattle.psy_judge.specs.Judged.{Judges}

@@ -1,8 +1,8 @@
 -- The least of faults, family by family and place by place.
 use Rattle.std.proofs.Common.{◌≡◌, ℕ, ◌<◌, ◌≤◌, Bool, true, false, ◌&&◌, if◌then◌else◌, refl, inl, inr, arith}
 use Rattle.std.specs.Prelude.{Option, None, Some, nat_eq, nat_lt}
+use Rattle.psy_flow.specs.Verified.{ComesBefore, Rule, number_of}
 use Rattle.psy_judge.specs.declared.fault.Fault.{Fault}
-use Rattle.psy_judge.specs.Verified.{ComesBefore, Rule, number_of}
 use Rattle.psy_judge.specs.Judged.{IsFirst, IsLeast, IsLeastOf, Judges, is_before, lesser}
 use Rattle.psy_judge.proofs.JudgedBools.{fails, holds, judge_and, judge_eq, judge_lt, judge_or}
 

@@ -1,11 +1,11 @@
 -- The lemmas of this crate, by subject.
 mod CallsJudged
+mod ClimbedBack
 mod EndsFound
 mod InstrJudged
 mod JudgedBools
 mod LeastFaults
 mod ListReads
-mod Marked
 mod NeedsGathered
 mod OnwardOf
 mod OwnersJudged
@@ -14,7 +14,6 @@ mod PlacesMet
 mod Pumping
 mod RowsTaken
 mod Ruled
-mod Shifted
 mod TakenPlaces
 mod TopsJoined
 mod WholeJudged

@@ -8,21 +8,21 @@ use Rattle.std.proofs.lemmas.Option.{same_Some, slice_get_within}
 use Rattle.psy_code.specs.declared.code.Code.{Code}
 use Rattle.psy_code.specs.declared.instr.Instr.{Instr}
 use Rattle.psy_code.specs.declared.instr.Instr.TheVariants as instr
+use Rattle.psy_flow.specs.Owners.{Function, IsReached, function_code_at}
+use Rattle.psy_flow.specs.Heights.{Finds, IsAmong, IsBalanced, IsHeight, Moves, Shift, at_start, moved, shifts}
+use Rattle.psy_flow.specs.Needs.{Calls, IsCounted, MayHold, MayUse, above_left, frame_size, own_frame, own_height, with_callee}
+use Rattle.psy_flow.proofs.lemmas.Shifted.{each_among}
 use Rattle.psy_judge.specs.declared.heights.Top.{Top}
 use Rattle.psy_judge.specs.declared.heights.Top.TheVariants as top
 use Rattle.psy_judge.specs.declared.needs.Need.{Need}
 use Rattle.psy_judge.specs.declared.steps.Step.{Step}
 use Rattle.psy_judge.specs.declared.steps.Steps.{Steps}
-use Rattle.psy_judge.specs.Owners.{Function, IsReached, function_code_at}
-use Rattle.psy_judge.specs.Heights.{Finds, IsAmong, IsBalanced, IsHeight, Moves, Shift, at_start, moved, shifts}
-use Rattle.psy_judge.specs.Needs.{Calls, IsCounted, MayHold, MayUse, above_left, frame_size, own_frame, own_height, with_callee}
 use Rattle.psy_judge.specs.Highest.{IsSmall, shift_of, shifts_of}
 use Rattle.psy_judge.specs.Judging.{AreNeeds, AreReached, IsNeed, IsTop}
 use Rattle.psy_judge.specs.Deciding.{called, need_at}
 use Rattle.psy_judge.specs.Gathering.{AreHeld, AreUsed, IsGathered, IsUsed, after_on, call_held, call_used, held_at, held_with, left_held, need_used}
 use Rattle.psy_judge.proofs.CallsJudged.{call_is, need_counted, need_known, params_found}
 use Rattle.psy_judge.proofs.Pumping.{pushes_few}
-use Rattle.psy_judge.proofs.Shifted.{each_among}
 use Rattle.psy_judge.proofs.RowsTaken.{among_left, among_right, among_two, reached_at, step_among}
 
 -- Whether there is one height
@@ -131,7 +131,7 @@ module _ (code : Code) (function : ℕ) (there : function < length code.function
 
     -- ---- operands
 
-    module _ (on : Steps) (steps : shifts_of on ≡ shifts code place i) (height : ℕ) (is : IsTop (Has place) (top.One height)) (small : height ≤ 262144) where
+    module _ (on : Steps) (steps : shifts_of on ≡ shifts code place i) (height : ℕ) (is : IsTop (Has place) (top.One height)) (small : height ≤ 2 ^ 32) where
       balanced : IsBalanced code (Function function) place
       balanced = counted.1 place (slice_get_within code.instrs place i at)
 
@@ -297,7 +297,7 @@ module _ (code : Code) (function : ℕ) (there : function < length code.function
       used_few = uses_few spot i here reached need.used gathered.used_few;
     }
 
-    pub gathered_one : (on : Steps) → shifts_of on ≡ shifts code spot i → (height : ℕ) → IsTop (Has spot) (top.One height) → height ≤ 262144
+    pub gathered_one : (on : Steps) → shifts_of on ≡ shifts code spot i → (height : ℕ) → IsTop (Has spot) (top.One height) → height ≤ 2 ^ 32
         → IsGathered code function places (at + 1) (record { held = max need.held (held_at code needs i on height); used = use_there })
     gathered_one on steps height is small =
         let there_held : ℕ = held_at code needs i on height in
@@ -322,7 +322,7 @@ module _ (code : Code) (function : ℕ) (there : function < length code.function
             let same = balanced.same n m one two in
             omega (arith, same, further))
 
-    pub gathered_at : (on : Steps) → shifts_of on ≡ shifts code spot i → (t : Top) → IsTop (Has spot) t → IsSmall 262144 t
+    pub gathered_at : (on : Steps) → shifts_of on ≡ shifts code spot i → (t : Top) → IsTop (Has spot) t → IsSmall (2 ^ 32) t
         → IsGathered code function places (at + 1) (record { held = held_with code needs i on t need.held; used = use_there })
     gathered_at on steps top.Nothing is small = gathered_other top.Nothing is (λ height e. false≢true (ap is_one e))
     gathered_at on steps (top.One height) is small = gathered_one on steps height is small

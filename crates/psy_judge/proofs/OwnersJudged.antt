@@ -11,16 +11,16 @@ use Rattle.psy_code.specs.declared.code.Code.{Code}
 use Rattle.psy_code.specs.declared.instr.Instr.{Instr}
 use Rattle.psy_tree.specs.declared.unit.Unit.{Unit as Whole}
 use Rattle.psy_meaning.specs.CodeWays.{GoesOn, agent_code_at}
+use Rattle.psy_flow.specs.Owners.{Agent, Begins, Function, IsReached, Owner}
+use Rattle.psy_flow.specs.Heights.{IsBalanced, IsHeight, shifts}
+use Rattle.psy_flow.specs.Marks.{HasEndFor}
+use Rattle.psy_flow.specs.Needs.{cells_of, counters_of}
+use Rattle.psy_flow.specs.Verified.{Apart, Balanced, ComesBefore, Framed, HasEnd, Inside, IsFramed, IsLed, IsNamed, IsOrdered, Led, Named, Ordered, Rule, number_of}
 use Rattle.psy_judge.specs.declared.fault.Fault.{Fault}
 use Rattle.psy_judge.specs.declared.heights.Top.{Top}
 use Rattle.psy_judge.specs.declared.needs.Need.{Need}
 use Rattle.psy_judge.specs.declared.steps.Steps.{Steps}
-use Rattle.psy_judge.specs.Owners.{Agent, Begins, Function, IsReached, Owner}
-use Rattle.psy_judge.specs.Heights.{IsBalanced, IsHeight, shifts}
 use Rattle.psy_judge.specs.Highest.{AreStarts, shifts_of}
-use Rattle.psy_judge.specs.Marks.{HasEndFor}
-use Rattle.psy_judge.specs.Needs.{cells_of, counters_of}
-use Rattle.psy_judge.specs.Verified.{Apart, Balanced, ComesBefore, Framed, HasEnd, Inside, IsFramed, IsLed, IsNamed, IsOrdered, Led, Named, Ordered, Rule, number_of}
 use Rattle.psy_judge.specs.Walked.{onward_of}
 use Rattle.psy_judge.specs.Judged.{IsFirst, IsLeast, IsLeastOf, Judges, lesser}
 use Rattle.psy_judge.specs.Judging.{AreReached, FitsFramesOf, FitsStackOf, Here, IsAlone, IsDone, IsEarlier, IsTaken, IsTop, KeepsFor, KeptBy, RuleFor}

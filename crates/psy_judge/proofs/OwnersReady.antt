@@ -2,17 +2,17 @@
 use Rattle.std.proofs.Common.{◌≡◌, ℕ, zero, suc, Bool, true, false, List, [], length, get_or, refl, sym, ap, ◌∙◌, arith}
 use Rattle.std.specs.Prelude.{Option, replicate}
 use Rattle.psy_code.specs.declared.code.Code.{Code}
+use Rattle.psy_flow.specs.Owners.{Agent, Function, Owner}
+use Rattle.psy_flow.specs.Verified.{HasEnd}
 use Rattle.psy_judge.specs.declared.heights.Top.{Top}
 use Rattle.psy_judge.specs.declared.heights.Top.TheVariants as top
 use Rattle.psy_judge.specs.declared.needs.Need.{Need}
-use Rattle.psy_judge.specs.Owners.{Agent, Function, Owner}
 use Rattle.psy_code.specs.declared.instr.Instr.{Instr}
 use Rattle.std.proofs.lemmas.Bool.{false≢true}
 use Rattle.psy_judge.specs.Ending.{AreEnds}
 use Rattle.psy_judge.specs.Judged.{Judges}
 use Rattle.psy_judge.specs.Owned.{IsExplored, functions_before}
 use Rattle.psy_judge.proofs.CallsJudged.{AreKnown}
-use Rattle.psy_judge.specs.Verified.{HasEnd}
 use Rattle.psy_judge.specs.Walked.{ArePassedFrom}
 use Rattle.psy_judge.proofs.RowsTaken.{nothing_or_met}
 use Rattle.psy_judge.specs.Highest.{AreSmall, AreStarts, AreTops, IsEmpty, top_at}

@@ -13,8 +13,8 @@ use Rattle.psy_code.specs.declared.instr.Instr.{Instr}
 use Rattle.psy_code.specs.declared.instr.Instr.TheVariants as instr
 use Rattle.std.specs.Prelude.{Option, None}
 use Rattle.psy_meaning.specs.CodeWays.{IsUnbounded}
-use Rattle.psy_judge.specs.Owners.{Owner}
-use Rattle.psy_judge.specs.Heights.{IsAmong, IsHeight, Moves, Shift, at_start, moved, onto, past_call, shifts}
+use Rattle.psy_flow.specs.Owners.{Owner}
+use Rattle.psy_flow.specs.Heights.{IsAmong, IsHeight, Moves, Shift, at_start, moved, onto, past_call, shifts}
 
 -- ---- what is pushed
 

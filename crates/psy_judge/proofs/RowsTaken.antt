@@ -10,18 +10,18 @@ use Rattle.psy_lists.proofs.lemmas.Tests.{or_right}
 use Rattle.psy_code.specs.declared.code.Code.{Code}
 use Rattle.psy_code.specs.declared.instr.Instr.{Instr}
 use Rattle.psy_meaning.specs.CodeWays.{GoesOn, first, later}
+use Rattle.psy_flow.specs.Owners.{IsReached, Owner}
+use Rattle.psy_flow.specs.Heights.{IsAmong, IsHeight, Shift, at_start, moved, shifts}
+use Rattle.psy_flow.proofs.lemmas.Shifted.{shift_goes}
 use Rattle.psy_judge.specs.declared.heights.Top.{Top}
 use Rattle.psy_judge.specs.declared.heights.Top.TheVariants as top
 use Rattle.psy_judge.specs.declared.steps.Step.{Step}
 use Rattle.psy_judge.specs.declared.steps.Steps.{Steps}
-use Rattle.psy_judge.specs.Owners.{IsReached, Owner}
-use Rattle.psy_judge.specs.Heights.{IsAmong, IsHeight, Shift, at_start, moved, shifts}
 use Rattle.psy_judge.specs.Walked.{ArePassedFrom}
 use Rattle.psy_judge.specs.Highest.{AreFound, AreSmall, AreStarts, AreTops, Covers, IsClosedAt, IsCourse, IsEmpty, IsFound, IsSmall, begun_at, followed, followed_some, follows, follows_some, joined_all, rises, room_in, room_of, shift_of, shifts_of, taken_to, top_at}
 use Rattle.psy_judge.specs.Highest as highest
 use Rattle.psy_judge.proofs.JudgedBools.{fails, holds, judge_eq, judge_lt, known, or_left}
 use Rattle.psy_judge.proofs.Pumping.{endless, pushes_few}
-use Rattle.psy_judge.proofs.Shifted.{shift_goes}
 use Rattle.psy_judge.proofs.TopsJoined.{IsInOrder, all_found, all_keeps, all_less, all_small, covered_all, moved_covers, moved_found, moved_order, small_order}
 
 -- ---- one cell
@@ -33,7 +33,7 @@ set_each P row to t less each here p = elim (known (nat_eq p to) (judge_eq p to)
   | inr other ↦ subst (P p) (sym (get_or-set_other row to p t top.Nothing other)) (each p)
 ]
 
-room_set : (m : ℕ) (row : List Top) (to : ℕ) (t : Top) → to < length row → room_in m t < room_in m (top_at row to) → room_of m (slice_set row to t) < room_of m row
+pub room_set : (m : ℕ) (row : List Top) (to : ℕ) (t : Top) → to < length row → room_in m t < room_in m (top_at row to) → room_of m (slice_set row to t) < room_of m row
 room_set m [] to t less low = absurd (omega (arith, less))
 room_set m (x ∷ row) zero t less low = omega (arith, low, sum_by-cons (room_in m) t row, sum_by-cons (room_in m) x row)
 room_set m (x ∷ row) (suc to) t less low =

@@ -2,7 +2,7 @@
 use Rattle.std.specs.Prelude.{ℕ}
 use Rattle.psy_code.specs.declared.code.Code.{Code}
 use Rattle.psy_tree.specs.declared.unit.Unit.{Unit as Whole}
-use Rattle.psy_judge.specs.Verified.{Apart, Balanced, Framed, Inside, IsFault, IsVerified, Keeps, Led, Named, Ordered, Rule}
+use Rattle.psy_flow.specs.Verified.{Apart, Balanced, Framed, Inside, IsFault, IsVerified, Keeps, Led, Named, Ordered, Rule}
 
 module _ (unit : Whole) (code : Code) where
   pub kept : IsVerified unit code → (place : ℕ) (rule : Rule) → Keeps unit code place rule

@@ -6,7 +6,7 @@ use Rattle.std.proofs.lemmas.Bool.{cases_lt, false≢true}
 use Rattle.std.proofs.lemmas.List.{get_or_default, length-set}
 use Rattle.std.proofs.lemmas.List.Elements.{Contains-get_or}
 use Rattle.psy_code.specs.declared.code.Code.{Code}
-use Rattle.psy_judge.specs.Owners.{Agent, Function, IsReached, Owner}
+use Rattle.psy_flow.specs.Owners.{Agent, Function, IsReached, Owner}
 use Rattle.psy_judge.specs.Judged.{Judges}
 use Rattle.psy_judge.specs.Judging.{AreReached, IsDone, IsTaken}
 use Rattle.psy_judge.specs.Owned.{AreTaken}

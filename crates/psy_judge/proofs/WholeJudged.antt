@@ -8,10 +8,10 @@ use Rattle.psy_code.specs.declared.code.AgentCode.{AgentCode}
 use Rattle.psy_code.specs.declared.code.Code.{Code}
 use Rattle.psy_tree.specs.declared.unit.Unit.{Unit as Whole}
 use Rattle.psy_meaning.specs.CodeWays.{IsPassed, first, later}
+use Rattle.psy_flow.specs.Owners.{Agent, Begins, Function, IsInside, IsReached, Owner}
+use Rattle.psy_flow.specs.Heights.{IsHeight}
+use Rattle.psy_flow.specs.Verified.{Apart, Balanced, ComesBefore, Framed, Inside, IsLeastFault, IsVerified, Keeps, Led, Named, Ordered, Rule, number_of}
 use Rattle.psy_judge.specs.declared.fault.Fault.{Fault}
-use Rattle.psy_judge.specs.Owners.{Agent, Begins, Function, IsInside, IsReached, Owner}
-use Rattle.psy_judge.specs.Heights.{IsHeight}
-use Rattle.psy_judge.specs.Verified.{Apart, Balanced, ComesBefore, Framed, Inside, IsLeastFault, IsVerified, Keeps, Led, Named, Ordered, Rule, number_of}
 use Rattle.psy_judge.specs.Judged.{IsLeast}
 use Rattle.psy_judge.specs.Judging.{FitsFramesOf, FitsStackOf, IsDone, KeptBy, RuleFor}
 use Rattle.psy_judge.proofs.LeastFaults.{least_same}

@@ -8,6 +8,7 @@ use Rattle.psy_tree.specs.declared.unit.StreamDecl.{StreamDecl}
 use Rattle.psy_tree.specs.declared.unit.Unit.{Unit as Whole}
 use Rattle.psy_tree.specs.declared.unit.VarDecl.{VarDecl}
 use Rattle.psy_meaning.specs.CodeWays.{agent_code_at}
+use Rattle.psy_flow.specs.Owners.{Agent, Function, Owner, function_code_at}
 use Rattle.psy_judge.specs.declared.heights.Top.{Top}
 use Rattle.psy_judge.specs.declared.heights.Top.TheVariants as top
 use Rattle.psy_judge.specs.declared.needs.Need.{Need}
@@ -16,7 +17,6 @@ use Rattle.psy_judge.specs.declared.steps.Steps.{Steps}
 use Rattle.psy_judge.specs.declared.walked.Onward.{Onward}
 use Rattle.psy_judge.specs.declared.whose.Whose.{Whose}
 use Rattle.psy_judge.specs.declared.whose.Whose.TheVariants as whose
-use Rattle.psy_judge.specs.Owners.{Agent, Function, Owner, function_code_at}
 
 -- The owner that is meant
 abbrev pub owner_of : Whose → Owner

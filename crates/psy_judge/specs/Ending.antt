@@ -2,8 +2,8 @@
 use Rattle.std.specs.Prelude.{◌≡◌, ◌↔◌, ℕ, ◌<◌, Bool, true, false, ◌||◌, get_or, List, length, Option, None, Some, slice_get}
 use Rattle.psy_code.specs.declared.instr.Instr.{Instr}
 use Rattle.psy_code.specs.declared.instr.Instr.TheVariants as instr
+use Rattle.psy_flow.specs.Verified.{HasEnd}
 use Rattle.psy_judge.specs.declared.walked.Onward.{Onward}
-use Rattle.psy_judge.specs.Verified.{HasEnd}
 use Rattle.psy_judge.specs.Walked.{onward_of, unmarked}
 
 -- The place, if there is one, is marked.

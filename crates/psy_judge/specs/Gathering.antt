@@ -3,15 +3,15 @@ use Rattle.std.specs.Prelude.{◌≡◌, ◌⊎◌, ℕ, ◌+◌, ◌-◌, ◌*�
 use Rattle.psy_code.specs.declared.code.Code.{Code}
 use Rattle.psy_code.specs.declared.instr.Instr.{Instr}
 use Rattle.psy_code.specs.declared.instr.Instr.TheVariants as instr
+use Rattle.psy_flow.specs.Heights.{IsHeight, Moves}
+use Rattle.psy_flow.specs.Needs.{Calls, IsCounted, MayHold, MayUse}
+use Rattle.psy_flow.specs.Owners.{Function, IsReached, function_code_at}
 use Rattle.psy_judge.specs.declared.heights.Top.{Top}
 use Rattle.psy_judge.specs.declared.heights.Top.TheVariants as top
 use Rattle.psy_judge.specs.declared.needs.Need.{Need}
 use Rattle.psy_judge.specs.declared.steps.Step.{Step}
 use Rattle.psy_judge.specs.declared.steps.Steps.{Steps}
 use Rattle.psy_judge.specs.Deciding.{called, need_at}
-use Rattle.psy_judge.specs.Heights.{IsHeight, Moves}
-use Rattle.psy_judge.specs.Needs.{Calls, IsCounted, MayHold, MayUse}
-use Rattle.psy_judge.specs.Owners.{Function, IsReached, function_code_at}
 
 -- The height behind a way on, if there is one
 abbrev pub after_on : Option Step → ℕ → ℕ

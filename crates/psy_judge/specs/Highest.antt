@@ -5,12 +5,12 @@ use Rattle.std.specs.List.{Contains, sum_by}
 use Rattle.psy_code.specs.declared.code.Code.{Code}
 use Rattle.psy_code.specs.declared.instr.Instr.{Instr}
 use Rattle.psy_meaning.specs.CodeWays.{IsUnbounded}
+use Rattle.psy_flow.specs.Heights.{IsAmong, IsHeight, Shift, shifts}
+use Rattle.psy_flow.specs.Owners.{Begins, Owner}
 use Rattle.psy_judge.specs.declared.heights.Top.{Top}
 use Rattle.psy_judge.specs.declared.heights.Top.TheVariants as top
 use Rattle.psy_judge.specs.declared.steps.Step.{Step}
 use Rattle.psy_judge.specs.declared.steps.Steps.{Steps}
-use Rattle.psy_judge.specs.Heights.{IsAmong, IsHeight, Shift, shifts}
-use Rattle.psy_judge.specs.Owners.{Begins, Owner}
 
 -- ---- ways on
 

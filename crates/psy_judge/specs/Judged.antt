@@ -1,7 +1,7 @@
 -- What is judged of code, and the least of its faults.
 use Rattle.std.specs.Prelude.{◌≡◌, ◌<◌, ◌&&◌, ◌||◌, ℕ, Bool, true, false, if◌then◌else◌, nat_eq, nat_lt, Option, None, Some}
+use Rattle.psy_flow.specs.Verified.{ComesBefore, Rule, number_of}
 use Rattle.psy_judge.specs.declared.fault.Fault.{Fault}
-use Rattle.psy_judge.specs.Verified.{ComesBefore, Rule, number_of}
 
 -- Told is whether it holds.
 abbrev pub Judges : Bool → Type 0 → Type 0

@@ -1,24 +1,24 @@
 -- What is judged owner by owner.
 use Rattle.std.specs.Prelude.{◌≡◌, ◌↔◌, ℕ, ◌+◌, ◌*◌, ◌<◌, ◌≤◌, ◌^◌, List, length, Option, None, Some, slice_get, ⊤}
 use Rattle.std.specs.List.{Contains}
-use Rattle.psy_base.specs.declared.limits.TheConstants.{FILE_BYTES, FUNCTIONS, NAMES}
+use Rattle.psy_base.specs.declared.limits.TheConstants.{FUNCTIONS, NAMES}
 use Rattle.psy_code.specs.declared.code.Code.{Code}
 use Rattle.psy_code.specs.declared.instr.Instr.{Instr}
 use Rattle.psy_tree.specs.declared.unit.Unit.{Unit as Whole}
 use Rattle.psy_meaning.specs.CodeWays.{GoesOn}
+use Rattle.psy_flow.specs.Owners.{Agent, Begins, Function, IsReached, Owner, function_code_at}
+use Rattle.psy_flow.specs.Heights.{IsBalanced}
+use Rattle.psy_flow.specs.Marks.{HasEndFor}
+use Rattle.psy_flow.specs.Needs.{FitsFrames, FitsStack, IsCounted, MayHold, MayUse}
+use Rattle.psy_flow.specs.Verified.{Apart, Balanced, Framed, Inside, IsFramed, IsLed, IsNamed, IsOrdered, Led, Named, Ordered, Rule}
 use Rattle.psy_judge.specs.declared.needs.Need.{Need}
-use Rattle.psy_judge.specs.Owners.{Agent, Begins, Function, IsReached, Owner, function_code_at}
-use Rattle.psy_judge.specs.Heights.{IsBalanced}
 use Rattle.psy_judge.specs.Highest.{Covers, IsFound}
 use Rattle.psy_judge.specs.declared.heights.Top.{Top}
-use Rattle.psy_judge.specs.Marks.{HasEndFor}
-use Rattle.psy_judge.specs.Needs.{FitsFrames, FitsStack, IsCounted, MayHold, MayUse}
 use Rattle.psy_judge.specs.Deciding.{need_at}
-use Rattle.psy_judge.specs.Verified.{Apart, Balanced, Framed, Inside, IsFramed, IsLed, IsNamed, IsOrdered, Led, Named, Ordered, Rule}
 
--- What an image keeps: no more instructions than bytes, and so many functions with so many locals
+-- What an image keeps: no more instructions than places can be numbered, and so many functions with so many locals
 pub record IsSized (code : Code) : Type 0 where
-  pub instrs : length code.instrs ≤ FILE_BYTES
+  pub instrs : length code.instrs < 2 ^ 32
   pub functions : length code.functions ≤ FUNCTIONS
   pub locals : (number : ℕ) → length (function_code_at code number).locals ≤ NAMES
 

@@ -2,12 +2,12 @@
 use Rattle.std.specs.Prelude.{◌≡◌, ◌⊎◌, ◌↔◌, ℕ, ◌<◌, Bool, false, true, get_or, replicate, List, length, Option, None, Some}
 use Rattle.std.specs.List.{Contains}
 use Rattle.psy_code.specs.declared.code.Code.{Code}
+use Rattle.psy_flow.specs.Owners.{Agent, Function, Owner}
 use Rattle.psy_judge.specs.declared.fault.Fault.{Fault}
 use Rattle.psy_judge.specs.declared.heights.Top.{Top}
 use Rattle.psy_judge.specs.declared.heights.Top.TheVariants as top
 use Rattle.psy_judge.specs.Highest.{AreSmall, AreTops, IsEmpty, top_at}
 use Rattle.psy_judge.specs.Judging.{AreReached, IsTaken}
-use Rattle.psy_judge.specs.Owners.{Agent, Function, Owner}
 
 -- A fault at a place, if there is one
 abbrev pub fault_of : ℕ → Option ℕ → Option Fault

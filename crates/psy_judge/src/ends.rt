@@ -1,9 +1,10 @@
-//! From which places of code a way goes on to an `Advance`, by passes from the last place to the first until no more is found.
+//! From which places of code a way goes on to an `Advance`, by passes over them until no more is found: first behind those where ways go on.
 
-ghost use Rattle.std.specs.Prelude.{◌≡◌, ◌<◌, ◌↔◌, ◌⊎◌, ℕ, true, false, IfOk, length, Some, slice_get, slice_set, if◌then◌else◌, get_or, not};
+ghost use Rattle.std.specs.Prelude.{◌≡◌, ◌≤◌, ◌<◌, true, false, IfOk, length};
 ghost use Rattle.psy_judge.specs.Ending.{AreEnds, IsFoundEnd, IsPass, ends_by, marked_in};
-ghost use Rattle.psy_code.specs.declared.instr.Instr.{Instr as Instruction};
+ghost use Rattle.psy_judge.specs.Walked.{unmarked};
 
+use crate::orders::{finishing, first_places};
 use crate::walked::{Onward, goes_on, no_marks};
 use psy_base::{Items, Memory};
 use psy_code::Instr;
@@ -63,12 +64,37 @@ fn pass(instrs: &[Instr], marks: &mut Items<bool>) -> bool
     more
 }
 
+// Marks the place, unless it is outside the code.
+fn mark_within(instrs: &[Instr], marks: &mut Items<bool>, place: usize)
+    requires found { IsFoundEnd instrs.now marks.old }
+    ensures found { IsFoundEnd instrs.now marks.new }
+    ensures room { unmarked marks.new ≤ unmarked marks.old }
+{
+    if place < instrs.len() {
+        mark(instrs, marks, place);
+    }
+}
+
+// One pass over places in an order that ways keep as far as they can.
+fn sweep(instrs: &[Instr], order: &[usize], marks: &mut Items<bool>)
+    requires found { IsFoundEnd instrs.now marks.old }
+    ensures found { IsFoundEnd instrs.now marks.new }
+    ensures room { unmarked marks.new ≤ unmarked marks.old }
+{
+    'places: for place in order {
+        mark_within(instrs, marks, *place);
+    }
+}
+
 /// Marks by place: those from which a way goes on to an `Advance`. The only error is want of memory.
 pub fn ending(alloc: Global, instrs: &[Instr]) -> Result<Items<bool>, Memory>
     ensures { IfOk result (AreEnds instrs.now) }
 {
     let mut marks = no_marks(alloc, instrs.len())?;
+    let places = first_places(alloc, instrs.len())?;
+    let order = finishing(alloc, instrs, places.as_slice())?;
     'passes: loop {
+        sweep(instrs, order.as_slice(), &mut marks);
         if !pass(instrs, &mut marks) {
             return Ok(marks);
         }

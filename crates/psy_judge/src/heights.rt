@@ -1,17 +1,15 @@
-//! The greatest two heights of each place that an owner reaches, by passes over these places until none rises.
+//! The greatest two heights of places, and how they are taken on along the ways from there.
 //!
-//! A place is passed behind one from which a way comes to it, so that where each place has one height a second pass finds nothing more. A height
-//! above the number of instructions means that there is no greatest one. In any code each pass but the last raises a place, and none rises more
-//! often than by twice that number.
+//! A height above the number of instructions means that there is no greatest one. In any code each pass but the last raises a place, and none
+//! rises more often than by twice that number.
 
 ghost use Rattle.std.specs.Prelude.{◌≡◌, ◌<◌, ◌^◌, ◌⊎◌, ℕ, length, Some};
 ghost use Rattle.std.specs.List.{Contains};
-ghost use Rattle.psy_judge.specs.Owners.{Owner};
+ghost use Rattle.psy_flow.specs.Owners.{Owner};
 ghost use Rattle.psy_judge.specs.Highest.{
   AreFound,
   AreSmall,
   AreStarts,
-  AreTops,
   IsClosedAt,
   IsCourse,
   IsEmpty,
@@ -32,7 +30,6 @@ ghost use Rattle.psy_judge.specs.Highest.{
   top_at,
 };
 ghost use Rattle.psy_judge.specs.declared.heights.Top.TheVariants as top;
-ghost use Rattle.psy_judge.specs.Walked.{ArePassedFrom};
 
 use crate::steps::{Step, steps_at};
 use psy_base::Items;
@@ -201,8 +198,8 @@ fn follow_some(row: &mut Items<Top>, top: Top, step: Option<Step>) -> bool
     }
 }
 
-// Takes the top of a place along the ways on from there.
-fn visit(code: &Code, row: &mut Items<Top>, place: usize) -> bool
+/// Takes the top of a place along the ways on from there.
+pub fn visit(code: &Code, row: &mut Items<Top>, place: usize) -> bool
     requires place { place < length code.now.instrs }
     requires count { length row.old ≡ length code.now.instrs }
     requires few { length code.now.instrs < 2 ^ 32 }
@@ -219,8 +216,8 @@ fn visit(code: &Code, row: &mut Items<Top>, place: usize) -> bool
     next || jump
 }
 
-// One pass over places, in their order.
-fn pass(code: &Code, places: &[usize], row: &mut Items<Top>) -> bool
+/// One pass over places, in their order.
+pub fn pass(code: &Code, places: &[usize], row: &mut Items<Top>) -> bool
     requires inside { (place : ℕ) → Contains places.now place → place < length code.now.instrs }
     requires count { length row.old ≡ length code.now.instrs }
     requires few { length code.now.instrs < 2 ^ 32 }
@@ -246,8 +243,8 @@ fn begin_at(row: &mut Items<Top>, start: usize)
     }
 }
 
-// Sets the height of the places where an owner begins.
-fn begin(code: &Code, starts: &[u32], row: &mut Items<Top>)
+/// Sets the height of the places where an owner begins.
+pub fn begin(code: &Code, starts: &[u32], row: &mut Items<Top>)
     requires empty { IsEmpty (length code.now.instrs) row.old }
     ensures count { length row.new ≡ length code.now.instrs }
     ensures small { AreSmall (length code.now.instrs) row.new }
@@ -256,24 +253,6 @@ fn begin(code: &Code, starts: &[u32], row: &mut Items<Top>)
 {
     'starts: for start in starts {
         begin_at(row, *start as usize);
-    }
-}
-
-/// Finds the greatest two heights of all places that an owner reaches, which begins at the starts. The places are those, and the row is empty.
-pub fn settle(code: &Code, starts: &[u32], places: &[usize], row: &mut Items<Top>)
-    requires passed { ArePassedFrom code.now.instrs starts.now places.now }
-    requires few { length code.now.instrs < 2 ^ 32 }
-    requires empty { IsEmpty (length code.now.instrs) row.old }
-    requires owned { (owner : Owner) × AreStarts code.now owner starts.now }
-    ensures count { length row.new ≡ length code.now.instrs }
-    ensures small { AreSmall (length code.now.instrs) row.new }
-    ensures tops { (owner : Owner) → AreStarts code.now owner starts.now → AreTops code.now owner row.new }
-{
-    begin(code, starts, row);
-    'passes: loop {
-        if !pass(code, places, row) {
-            return;
-        }
     }
 }
 

@@ -1,12 +1,13 @@
-//! Decides whether code of any origin is verified, and tells the least of its faults. Its definitions are still its own: they are those of psy_flow, but that
-//! whether a function counts is judged by places of the code alone. It may know units, code and ways; no text, no compiler.
+//! Decides whether code of any origin is verified, and tells the least of its faults. It may know units, code and ways; no text, no compiler.
 #![tactic(auto)]
 
+mod circles;
+mod climbing;
 mod ends;
 mod fault;
 mod heights;
-pub mod laws;
 mod needs;
+mod orders;
 mod owned;
 mod rules;
 mod steps;

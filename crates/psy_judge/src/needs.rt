@@ -1,14 +1,14 @@
 //! What functions need of the room for operands and for frames.
 
 ghost use Rattle.std.specs.Prelude.{◌≡◌, ◌≤◌, ◌<◌, ◌+◌, ◌*◌, ◌^◌, ℕ, List, get_or, length, Some};
+ghost use Rattle.psy_flow.specs.Heights.{IsBalanced};
+ghost use Rattle.psy_flow.specs.Needs.{IsCounted, frame_size};
+ghost use Rattle.psy_flow.specs.Owners.{Function, IsReached, Owner};
 ghost use Rattle.psy_judge.specs.Deciding.{need_at};
 ghost use Rattle.psy_judge.specs.Gathering.{IsGathered, after_on, call_held, call_used, held_at, held_with};
-ghost use Rattle.psy_judge.specs.Heights.{IsBalanced};
 ghost use Rattle.psy_judge.specs.Highest.{AreSmall, AreTops};
 ghost use Rattle.psy_judge.specs.Judged.{Judges};
 ghost use Rattle.psy_judge.specs.Judging.{AreNeeds, AreReached, IsNeedOf, IsSized};
-ghost use Rattle.psy_judge.specs.Needs.{IsCounted, frame_size};
-ghost use Rattle.psy_judge.specs.Owners.{Function, IsReached, Owner};
 ghost use Rattle.psy_judge.specs.declared.heights.Top.TheVariants.{One};
 
 use crate::heights::{Top, top_of};

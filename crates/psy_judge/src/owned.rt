@@ -2,18 +2,19 @@
 
 ghost use Rattle.std.specs.Prelude.{◌≡◌, ◌<◌, ◌↔◌, ◌^◌, ◌⊎◌, ℕ, List, false, true, get_or, length, replicate, IfOk, OnOk};
 ghost use Rattle.std.specs.List.{Contains};
+ghost use Rattle.psy_flow.specs.Heights.{IsHeight};
+ghost use Rattle.psy_flow.specs.Owners.{IsReached};
+ghost use Rattle.psy_flow.specs.Verified.{HasEnd, Inside};
 ghost use Rattle.psy_judge.specs.Deciding.{owner_of};
-ghost use Rattle.psy_judge.specs.Heights.{IsHeight};
 ghost use Rattle.psy_judge.specs.Highest.{AreStarts, IsEmpty, IsSmall};
 ghost use Rattle.psy_judge.specs.Judged.{IsFirst, IsLeast, Judges};
 ghost use Rattle.psy_judge.specs.Judging.{AreNeeds, IsEarlier, IsSized, IsTaken, IsThere, IsTop, KeepsFor};
 ghost use Rattle.psy_judge.specs.Ending.{AreEnds};
 ghost use Rattle.psy_judge.specs.Owned.{AreTaken, IsExplored, fault_of, functions_before};
-ghost use Rattle.psy_judge.specs.Owners.{IsReached, Owner};
-ghost use Rattle.psy_judge.specs.Verified.{HasEnd, Inside, Rule};
 
+use crate::climbing::settle;
 use crate::fault::{Fault, lesser};
-use crate::heights::{Top, settle, top_of};
+use crate::heights::{Top, top_of};
 use crate::needs::Need;
 use crate::rules::{first_of, fits_frames, led, level, named, ordered, stays};
 use crate::steps::steps_at;
@@ -215,7 +216,7 @@ pub fn explore(
     ensures explored { IfOk result (λ places. IsExplored code.now (owner_of whose) places row.new) }
 {
     let places = passed_from(alloc, code.instrs.as_slice(), starts, marks)?;
-    settle(code, starts, places.as_slice(), row);
+    settle(alloc, code, starts, places.as_slice(), row)?;
     Ok(places)
 }
 

@@ -34,9 +34,9 @@ ghost use Rattle.psy_judge.specs.Deciding.{
   use_fits,
   used_by,
 };
+ghost use Rattle.psy_flow.specs.Needs as spec_needs;
+ghost use Rattle.psy_flow.specs.Owners.{function_code_at};
 ghost use Rattle.psy_judge.specs.Judging.{IsSized, IsThere};
-ghost use Rattle.psy_judge.specs.Needs as spec_needs;
-ghost use Rattle.psy_judge.specs.Owners.{function_code_at};
 ghost use Rattle.psy_meaning.specs.CodeWays.{agent_code_at};
 
 use crate::heights::Top;

@@ -1,7 +1,7 @@
 //! The ways on from an instruction, with what is popped and pushed on them.
 
 ghost use Rattle.std.specs.Prelude.{◌≡◌, ◌<◌, ◌^◌, ◌∷◌, length, slice_get};
-ghost use Rattle.psy_judge.specs.Heights.{onto, past_call, shifts};
+ghost use Rattle.psy_flow.specs.Heights.{onto, past_call, shifts};
 ghost use Rattle.psy_judge.specs.Highest.{shifts_of};
 
 use psy_code::{Code, Instr};

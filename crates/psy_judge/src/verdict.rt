@@ -1,13 +1,13 @@
 //! Code of any origin, judged owner by owner, functions first.
 
 ghost use Rattle.std.specs.Prelude.{◌≡◌, ◌≢◌, ◌+◌, ◌<◌, ℕ, length, replicate, IfOk, IsOk, OnOk, Err, None, Some};
+ghost use Rattle.psy_flow.specs.Owners.{Agent, Function};
+ghost use Rattle.psy_flow.specs.Verified.{IsLeastFault, IsVerified, Keeps};
 ghost use Rattle.psy_judge.specs.Ending.{AreEnds};
 ghost use Rattle.psy_judge.specs.Judged.{IsLeast};
 ghost use Rattle.psy_judge.specs.Judging.{AreNeeds, IsDone, IsSized, KeepsFor, KeptBy};
 ghost use Rattle.psy_judge.specs.declared.heights.Top.TheVariants as top;
 ghost use Rattle.psy_judge.specs.Owned.{IsReady};
-ghost use Rattle.psy_judge.specs.Owners.{Agent, Function};
-ghost use Rattle.psy_judge.specs.Verified.{IsLeastFault, IsVerified, Keeps};
 ghost use Rattle.psy_judge.specs.declared.verdict.VerifyFault.TheVariants as verify_fault;
 
 use crate::ends::ending;

@@ -1,8 +1,8 @@
 //! Whose code is judged.
 
 ghost use Rattle.std.specs.Prelude.{◌≡◌, ◌≤◌, ◌<◌, ℕ, length};
+ghost use Rattle.psy_flow.specs.Needs.{cells_of, counters_of};
 ghost use Rattle.psy_judge.specs.Deciding.{owner_of};
-ghost use Rattle.psy_judge.specs.Needs.{cells_of, counters_of};
 ghost use Rattle.psy_judge.specs.Judging.{IsSized, IsThere};
 
 use psy_code::Code;

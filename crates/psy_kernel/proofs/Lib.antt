@@ -32,6 +32,7 @@ mod Asked
 mod Booted
 mod Changes
 mod Counted
+mod CountedUnits
 mod CyclesDone
 mod CyclesGiven
 mod Dated

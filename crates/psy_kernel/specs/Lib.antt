@@ -5,6 +5,7 @@ pub mod Engines
 pub mod Kernels
 pub mod Looking
 pub mod Progress
+pub mod Runs
 pub mod Seeing
 pub mod Slices
 pub mod Standing

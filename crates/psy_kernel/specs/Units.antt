@@ -1,5 +1,5 @@
 -- What a unit of a processor goes to, and what it looks at.
-use Rattle.std.specs.Prelude.{◌≡◌, ℕ, suc, ◌+◌, ◌-◌, ◌*◌, ◌/◌, ◌%◌, List, [], ◌∷◌, Option, Some, None, IfSome, IsSome, get_or, length, ◌<◌}
+use Rattle.std.specs.Prelude.{◌≡◌, ℕ, suc, ◌+◌, ◌/◌, List, [], ◌∷◌, Option, Some, None, IfSome, IsSome, get_or, length, ◌<◌}
 use Rattle.psy_base.specs.declared.sizes.Sizes.{Sizes}
 use Rattle.psy_clock.specs.Dates.{count}
 use Rattle.psy_code.specs.Views.{past_of}
@@ -7,6 +7,7 @@ use Rattle.psy_dates.specs.declared.plan.Plan.{Plan}
 use Rattle.psy_history.specs.Actions.{Action, System, publishing}
 use Rattle.psy_history.specs.History.{history}
 use Rattle.psy_history.specs.Processors.{served}
+use Rattle.psy_history.specs.Rings.{slot_of}
 use Rattle.psy_history.specs.Schedule.{Turn, pending, soonest, units}
 use Rattle.psy_history.specs.Scheduled.{turns_of}
 use Rattle.psy_kernel.specs.Acting.{IsLookIn}
@@ -37,11 +38,6 @@ action_at s order processor cycle =
     soonest (pending (served s.unit processor (order cycle)) (turns_of s order cycle processor) (history s (cycle / s.unit.quantum + 1)))
 
 -- ---- what it looks at
-
--- The place in a ring of the value of so many dates back, of those up to now: the publications have the places of their numbers modulo the size,
--- and the first values before them those that go before.
-abbrev pub slot_of : ℕ → ℕ → ℕ → ℕ
-slot_of size dates back = (dates + (size - 1) * (back + 1)) % size
 
 -- An action finds this value in this place, with buffers of these sizes: the value that it sees from its start on, and the place of the date so far
 -- back, of those up to its start.

@@ -94,6 +94,7 @@ impl Model for Engine {
 impl Engine {
     ghost use Rattle.std.specs.Prelude.{◌≡◌};
     ghost use Rattle.psy_dates.specs.Standing.{SharedStands};
+    ghost use Rattle.psy_history.specs.Compiled.{AreInputs};
     ghost use Rattle.psy_history.specs.Processors.{processors};
     ghost use Rattle.psy_kernel.specs.Engines.{history_of, turns_done};
 
@@ -119,9 +120,10 @@ impl Engine {
         self.servers.len() as u32
     }
 
-    /// The plan that is run.
+    /// The plan that is run, with inputs such as it has.
     pub(crate) fn plan(&self) -> &Plan
-        ensures { result.now ≡ self.now.plan }
+        ensures plan { result.now ≡ self.now.plan }
+        ensures inputs { AreInputs self.now.plan.unit self.now.inputs }
     {
         &self.plan
     }

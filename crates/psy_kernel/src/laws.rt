@@ -1,9 +1,10 @@
 //! Laws of the definitions, each the contract of a function that does nothing.
 
-ghost use Rattle.std.specs.Prelude.{ℕ, ◌≡◌, ◌+◌, ◌*◌, ◌-◌, ◌<◌, ◌≤◌};
+ghost use Rattle.std.specs.Prelude.{ℕ, ◌≡◌, ◌+◌, ◌*◌, ◌-◌, ◌==◌, ◌<◌, ◌≤◌, if◌then◌else◌};
 ghost use Rattle.psy_history.specs.Processors.{processors};
+ghost use Rattle.psy_history.specs.Scripts.{IsScript};
 ghost use Rattle.psy_kernel.specs.declared.stage.Stage.TheVariants.{CycleDue};
-ghost use Rattle.psy_kernel.specs.Progress.{Progress, after_cycle, at_rest, stage_of, up_to_date};
+ghost use Rattle.psy_kernel.specs.Progress.{Progress, after_cycle, after_unit, at_rest, cycles_on, next_processor, stage_of, up_to_date};
 ghost use Rattle.psy_kernel.specs.Slices.{IsSliceEnd, after_cycles, after_units};
 
 /// A cycle is as many units as there are processors, whatever their round, but that it leaves no unit as the last step. A slice has one end. It is as
@@ -18,4 +19,14 @@ pub fn slices()
         → up_to_date p ≡ at_rest (after_cycles (p.dates * p.plan.unit.quantum - p.cycles) p) }
     ensures due_on { (p : Progress) (n : ℕ) → stage_of p ≡ CycleDue p.cycles → p.cycles + n < p.dates * p.plan.unit.quantum
         → stage_of (after_cycles n p) ≡ CycleDue (p.cycles + n) }
+{}
+
+/// A unit is one more cycle of its processor, and of no other: that one did as many before as were done whole. Where no cycle was begun, each processor did
+/// those.
+pub fn units()
+    ensures known { (p : Progress) → IsScript p.plan.unit p.script → p.units < processors p.plan.unit → next_processor p < processors p.plan.unit }
+    ensures own { (p : Progress) → IsScript p.plan.unit p.script → p.units < processors p.plan.unit → cycles_on p (next_processor p) ≡ p.cycles }
+    ensures more { (p : Progress) (processor : ℕ) → IsScript p.plan.unit p.script → p.units < processors p.plan.unit → processor < processors p.plan.unit
+        → cycles_on (after_unit p) processor ≡ (if processor == next_processor p then p.cycles + 1 else cycles_on p processor) }
+    ensures whole { (p : Progress) (processor : ℕ) → p.units ≡ 0 → cycles_on p processor ≡ p.cycles }
 {}

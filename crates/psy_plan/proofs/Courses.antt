@@ -28,7 +28,7 @@ exit_memory Is (Err handed) is = subst (Stops Is) (sym is) tt
 -- ---- one end
 
 -- No step any more
-one_pure : {X : Type 0} (x : X) → IsOne (pure x)
+pub one_pure : {X : Type 0} (x : X) → IsOne (pure x)
 one_pure x = record {
   gift = λ y z p q. p ∙ sym q;
   stop = λ r s p q. absurd p;
@@ -36,7 +36,7 @@ one_pure x = record {
 }
 
 -- A test, where what passes it doesn't fail it
-one_unless : (Holds Fails : Type 0) (refusal : Refusal) → (Holds → Fails → ⊥) → IsOne (unless Holds Fails refusal)
+pub one_unless : (Holds Fails : Type 0) (refusal : Refusal) → (Holds → Fails → ⊥) → IsOne (unless Holds Fails refusal)
 one_unless Holds Fails refusal never = record {
   gift = λ x y p q. refl;
   stop = λ r s p q. p.0 ∙ sym q.0;
@@ -44,7 +44,7 @@ one_unless Holds Fails refusal never = record {
 }
 
 -- One course, and with what it gives another
-one_then : {X Y : Type 0} (c : Course X) (f : X → Course Y) → IsOne c → ((x : X) → c.gives x → IsOne (f x)) → IsOne (in_row c f)
+pub one_then : {X Y : Type 0} (c : Course X) (f : X → Course Y) → IsOne c → ((x : X) → c.gives x → IsOne (f x)) → IsOne (in_row c f)
 unfolding in_row
 one_then c f one later = record {
   gift = λ x y p q. (later q.0 q.1).gift x y (subst (λ z. (f z).gives x) (one.gift p.0 q.0 p.1 q.1) p.2) q.2;

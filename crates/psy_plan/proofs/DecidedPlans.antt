@@ -28,7 +28,7 @@ use Rattle.psy_plan.specs.declared.extent.Extent.TheVariants.{Horizon, LastDate}
 use Rattle.psy_plan.specs.declared.refusal.Refusal.{Refusal}
 use Rattle.psy_plan.specs.declared.refusal.Refusal.TheVariants.{Nodes, Edges, Ring, Queue, Cells, Infeasible}
 use Rattle.psy_plan.specs.Extents.{IsExtent, length_of}
-use Rattle.psy_plan.specs.Courses.{IsDecided}
+use Rattle.psy_plan.specs.Courses.{IsDecided, IsOne}
 use Rattle.psy_plan.specs.Programs.{translating}
 use Rattle.psy_plan.specs.Steps.{graphing, IsUndrawn, IsUnsizedBy, following, sizing, costing, rating, extending, windowing, demanding}
 use Rattle.psy_plan.specs.Supplies.{supplying}
@@ -38,7 +38,7 @@ use Rattle.psy_plan.proofs.lemmas.Decisions.{most_or_more, all_or_any}
 use Rattle.psy_plan.proofs.ExtentLemmas.{OneHorizon, no_horizon, nearer_is}
 use Rattle.psy_plan.proofs.ProcessorDemands.{feasible_none, feasible_or_overload, overload_one}
 use Rattle.psy_plan.proofs.RefusalLemmas.{undrawn_by, undrawn_is, unsized_by, unsized_is, overloaded_is}
-use Rattle.psy_plan.proofs.SupplyLemmas.{edges_fit, some_demand}
+use Rattle.psy_plan.proofs.SupplyLemmas.{edges_fit, small_graphs, some_demand}
 
 -- ---- lists
 
@@ -62,7 +62,7 @@ module _ {X Y : Type 0} (xs : List X) (Has : X → Y → Type 0) where
       (ys, long, λ number x y here at. each number y at x here)
 
 -- Lines of graphs: one list, where each graph has one line
-one_lines : ((graph : List Edge) (line other : Rate) → IsRateOf graph line → IsRateOf graph other → line ≡ other) → (graphs : List (List Edge)) (lines others : List Rate) → AreRates graphs lines → AreRates graphs others → lines ≡ others
+pub one_lines : ((graph : List Edge) (line other : Rate) → IsRateOf graph line → IsRateOf graph other → line ≡ other) → (graphs : List (List Edge)) (lines others : List Rate) → AreRates graphs lines → AreRates graphs others → lines ≡ others
 one_lines one [] [] [] are are' = refl
 one_lines one [] [] (other ∷ others) are are' = absurd are'
 one_lines one [] (line ∷ lines) others are are' = absurd are
@@ -92,7 +92,7 @@ unsized unit nexts size.Memory never = absurd never
 
 -- ---- up to which length
 
-one_extent : OneHorizon → (quantum until : ℕ) (homes : List ℕ) (lines : List Rate) (extent other : Extent) → IsExtent quantum homes lines until extent → IsExtent quantum homes lines until other → extent ≡ other
+pub one_extent : OneHorizon → (quantum until : ℕ) (homes : List ℕ) (lines : List Rate) (extent other : Extent) → IsExtent quantum homes lines until extent → IsExtent quantum homes lines until other → extent ≡ other
 one_extent one quantum until homes lines (Horizon length) (Horizon less) (is, within) (is', within') = ap Horizon (one quantum (lines_by homes lines) length less is is')
 one_extent one quantum until homes lines (Horizon length) (LastDate date) (is, within) (same, none) = let behind = none length is in absurd (omega (arith, within, behind))
 one_extent one quantum until homes lines (LastDate date) (Horizon length) (same, none) (is, within) = let behind = none length is in absurd (omega (arith, within, behind))
@@ -108,6 +108,18 @@ decided_windowing graphs until = decided_unless (All (HasCells until) graphs) (A
 
     each : (graph : Graph) → HasCells until graph ⊎ PassesCells until graph
     each graph = most_or_more (length graph.nodes * (until + 1)) WINDOW_CELLS
+
+-- The demand is met, or not over one least length on one least processor.
+pub one_demanding : (unit : Whole) (graphs : List Graph) (until : ℕ) → IsOne (demanding unit graphs until)
+one_demanding unit graphs until = record {
+  gift = λ x y p q. refl;
+  stop = λ r s p q.
+      let (within, processor, demand, is, over) = overloaded_is unit graphs until r p in
+      let (other, another, more, is', over') = overloaded_is unit graphs until s q in
+      let same = overload_one (homes unit) (edges_of graphs) unit.quantum until within other processor another demand more over over' in
+      is ∙ (λ i. Infeasible (same.0 i) (same.2 i) (unit.quantum * same.0 i) (same.1 i)) ∙ sym is';
+  apart = λ x r p q. let (within, processor, demand, is, over) = overloaded_is unit graphs until r q in feasible_none (homes unit) (edges_of graphs) unit.quantum until within processor demand p over;
+}
 
 module _ (laws : StepsDecide) (unit : Whole) (of : IsOfText unit) where
   pub decided_graphing : IsDecided (graphing unit)
@@ -154,10 +166,10 @@ module _ (laws : StepsDecide) (unit : Whole) (of : IsOfText unit) where
     one = record {
       gift = λ x y p q. laws.sizes unit graphs nexts x y of drawn follow p.0 q.0;
       stop = λ r s p q.
-          let (cause, is, it) = unsized_is unit nexts r p in
-          let (other, is', it') = unsized_is unit nexts s q in
+          let (cause, is, it) = unsized_is unit (OfText unit) nexts r p in
+          let (other, is', it') = unsized_is unit (OfText unit) nexts s q in
           is ∙ ap unsized_by (laws.size_fault unit graphs nexts cause other of drawn follow it it') ∙ sym is';
-      apart = λ x r p q. let (cause, is, it) = unsized_is unit nexts r q in laws.sizes_not_fault unit graphs nexts x cause of drawn follow p.0 p.1 it;
+      apart = λ x r p q. let (cause, is, it) = unsized_is unit (OfText unit) nexts r q in laws.sizes_not_fault unit graphs nexts x cause of drawn follow p.0 p.1 it;
     };
     some = elim (laws.sizes_or_fault unit graphs nexts of drawn follow) [
       | inl sizes ↦ inl (sizes.0, (sizes.1, sizes.2))
@@ -167,7 +179,7 @@ module _ (laws : StepsDecide) (unit : Whole) (of : IsOfText unit) where
 
   pub decided_rating : (graphs : List Graph) → AreGraphs unit graphs → IsDecided (rating graphs)
   decided_rating graphs drawn = decided_given _ (one_lines laws.line (edges_of graphs)) (some_lines (edges_of graphs) (λ number edges at.
-      let (nodes, fit, few) = edges_fit laws.edges unit graphs of drawn number edges at in laws.some_line edges nodes fit few))
+      let (nodes, fit, few) = edges_fit graphs (laws.edges unit graphs of drawn) (small_graphs unit graphs drawn) number edges at in laws.some_line edges nodes fit few))
 
   pub decided_extending : (lines : List Rate) (until : ℕ) → IsDecided (extending unit lines until)
   decided_extending lines until = decided_given _ (one_extent laws.horizon unit.quantum until (homes unit) lines) (elim (laws.horizon_or_none unit.quantum (lines_by (homes unit) lines)) [
@@ -180,16 +192,8 @@ module _ (laws : StepsDecide) (unit : Whole) (of : IsOfText unit) where
 
   pub decided_demanding : (graphs : List Graph) (until : ℕ) → AreGraphs unit graphs → IsDecided (demanding unit graphs until)
   decided_demanding graphs until drawn = record {
-    one = record {
-      gift = λ x y p q. refl;
-      stop = λ r s p q.
-          let (within, processor, demand, is, over) = overloaded_is unit graphs until r p in
-          let (other, another, more, is', over') = overloaded_is unit graphs until s q in
-          let same = overload_one (homes unit) (edges_of graphs) unit.quantum until within other processor another demand more over over' in
-          is ∙ (λ i. Infeasible (same.0 i) (same.2 i) (unit.quantum * same.0 i) (same.1 i)) ∙ sym is';
-      apart = λ x r p q. let (within, processor, demand, is, over) = overloaded_is unit graphs until r q in feasible_none (homes unit) (edges_of graphs) unit.quantum until within processor demand p over;
-    };
-    some = elim (feasible_or_overload (homes unit) (edges_of graphs) unit.quantum (some_demand laws.edges unit graphs of drawn laws.greatest) until) [
+    one = one_demanding unit graphs until;
+    some = elim (feasible_or_overload (homes unit) (edges_of graphs) unit.quantum (some_demand graphs (laws.edges unit graphs of drawn) (small_graphs unit graphs drawn) laws.greatest unit) until) [
       | inl feasible ↦ inl (tt, feasible)
       | inr over ↦ inr (Infeasible over.0 over.2 (unit.quantum * over.0) over.1, (over.3, refl))
     ];

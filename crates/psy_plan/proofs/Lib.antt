@@ -3,6 +3,7 @@ mod Courses
 mod DecidedPlans
 mod DecidedSteps
 mod ExtentLemmas
+mod GivenWays
 mod ProcessorDemands
 mod RefusalLemmas
 mod SupplyLemmas

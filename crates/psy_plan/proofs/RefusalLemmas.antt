@@ -13,7 +13,7 @@ use Rattle.psy_tree.specs.Rules.{LeastFault, NoFault}
 use Rattle.psy_tree.specs.Stands.{first_passed}
 use Rattle.psy_parse.specs.Fault.{AtFault}
 use Rattle.psy_meaning.specs.Demand.{IsOverloadOn}
-use Rattle.psy_meaning.specs.KnownWays.{OfText}
+use Rattle.psy_meaning.specs.KnownWays.{Ways as KnownWays}
 use Rattle.psy_graph.specs.declared.fault.GraphFault.{GraphFault}
 use Rattle.psy_graph.specs.declared.fault.GraphFault.TheVariants as fault
 use Rattle.psy_graph.specs.declared.graph.Graph.{Graph}
@@ -69,12 +69,12 @@ unsized_by (size.LargeQueue stream) = Queue
 unsized_by size.Memory = Nodes
 
 -- A program that has no sizes has a fault of them
-pub unsized_is : (unit : Whole) (nexts : List (List (List ℕ))) (refusal : Refusal) → IsUnsizedBy unit (OfText unit) nexts refusal → (cause : SizeFault) × (refusal ≡ unsized_by cause) × IsFaultBy unit (OfText unit) nexts cause
+pub unsized_is : (unit : Whole) (ways : KnownWays) (nexts : List (List (List ℕ))) (refusal : Refusal) → IsUnsizedBy unit ways nexts refusal → (cause : SizeFault) × (refusal ≡ unsized_by cause) × IsFaultBy unit ways nexts cause
 unfolding unsized_by
-unsized_is unit nexts Ring it = (size.LargeRing it.0, refl, it.1)
-unsized_is unit nexts Queue it = (size.LargeQueue it.0, refl, it.1)
-unsized_is unit nexts Cells it = (size.Cells it.0, refl, it.1)
-unsized_is unit nexts _ never = absurd never
+unsized_is unit ways nexts Ring it = (size.LargeRing it.0, refl, it.1)
+unsized_is unit ways nexts Queue it = (size.LargeQueue it.0, refl, it.1)
+unsized_is unit ways nexts Cells it = (size.Cells it.0, refl, it.1)
+unsized_is unit ways nexts _ never = absurd never
 
 -- A demand that isn't met passes the supply over a least length, on a least processor
 pub overloaded_is : (unit : Whole) (graphs : List Graph) (until : ℕ) (refusal : Refusal) → IsOverloaded unit graphs until refusal

@@ -48,7 +48,7 @@ use Rattle.psy_plan.specs.Courses.{in_row}
 use Rattle.psy_plan.specs.Extents.{IsExtent, length_of as top_of}
 use Rattle.psy_plan.specs.Programs.{IsProgram}
 use Rattle.psy_plan.specs.Steps.{graphing, graphing_by, sizing, sizing_by, IsUndrawn, IsUndrawnBy, IsUnsizedBy}
-use Rattle.psy_plan.specs.Supplies.{IsMet, IsSupply, Supply, meeting, supplying, supplying_by}
+use Rattle.psy_plan.specs.Supplies.{IsMet, IsSupply, IsSupplyBy, Supply, meeting, supplying, supplying_by}
 use Rattle.psy_plan.specs.Tables.{IsLine}
 use Rattle.psy_plan.proofs.Courses.{stops_first, stops_later}
 use Rattle.psy_plan.proofs.lemmas.Decisions.{all_or_any, most_or_more}
@@ -148,16 +148,19 @@ has_cells top graphs result x is passes = elim (all_or_any (HasCells top) (Passe
   | inr any ↦ absurd (let no : Ok x ≡ Err window.Cells = sym is ∙ passes.1 any in cc)
 ]
 
--- The graph of a list of edges is one of the text's, so its edges lead from node to node; and they are few.
-module _ (edges : (unit : Whole) (graphs : List Graph) → IsOfText unit → AreGraphs unit graphs → All (λ graph. All (IsEdge (length graph.nodes)) graph.edges) graphs)
-    (unit : Whole) (graphs : List Graph) (text : IsOfText unit) (are : AreGraphs unit graphs) where
+-- The edges of a graph lead from node to node.
+abbrev pub Leads : Graph → Type 0
+Leads graph = All (IsEdge (length graph.nodes)) graph.edges
+
+-- So do those of a list of edges that is one of a graph; and they are few.
+module _ (graphs : List Graph) (leads : All Leads graphs) (small : All IsSmall graphs) where
   pub edges_fit : (number : ℕ) (list : List Edge) → slice_get (edges_of graphs) number ≡ Some list → (nodes : ℕ) × All (IsEdge nodes) list × (length list ≤ EDGES)
   edges_fit number list at =
       let (graph, its, same) = edges_at graphs number list at in
       let less : number < length graphs = slice_get_within graphs number graph its in
       let here = get_or_from_slice_get graphs number graph graph its in
-      let fit = subst (λ g. All (IsEdge (length g.nodes)) g.edges) here (edges unit graphs text are number graph less) in
-      let few : length graph.edges ≤ EDGES = subst (λ g. length g.edges ≤ EDGES) here (small_graphs unit graphs are number graph less).1 in
+      let fit = subst Leads here (leads number graph less) in
+      let few : length graph.edges ≤ EDGES = subst (λ g. length g.edges ≤ EDGES) here (small number graph less).1 in
       subst (λ es. (nodes : ℕ) × All (IsEdge nodes) es × (length es ≤ EDGES)) same (length graph.nodes, fit, few)
 
   module _ (greatest : (graph : List Edge) (nodes : ℕ) (span : Span) (within : ℕ) → All (IsEdge nodes) graph → (n : ℕ) × IsGreatestWeight graph (Fits span within) n) where
@@ -166,8 +169,8 @@ module _ (edges : (unit : Whole) (graphs : List Graph) → IsOfText unit → Are
     some_weight within number list at = let (nodes, fit, few) = edges_fit number list at in greatest list nodes DueLast within fit
 
     -- so the demand on each processor over each length is there
-    pub some_demand : (processor within : ℕ) → (demand : ℕ) × IsDemand (edges_on (homes unit) processor (edges_of graphs)) within demand
-    some_demand processor within = demand_on (homes unit) processor (edges_of graphs) within (greatest [] 0 DueLast within (All-nil (IsEdge 0)))
+    pub some_demand : (unit : Whole) (processor within : ℕ) → (demand : ℕ) × IsDemand (edges_on (homes unit) processor (edges_of graphs)) within demand
+    some_demand unit processor within = demand_on (homes unit) processor (edges_of graphs) within (greatest [] 0 DueLast within (All-nil (IsEdge 0)))
         (λ k d less. some_weight within k (get_or (edges_of graphs) k d) (slice_get-get_or (edges_of graphs) k d less))
 
 -- ---- other lengths
@@ -177,12 +180,11 @@ pub record LinesHold : Type 0 where
   pub every : (groups : List (List (List Edge))) (lines : List (List Rate)) (quantum horizon : ℕ) → AreDrawn groups → AreAll groups lines → IsHorizon quantum lines horizon → GroupsFeasible groups quantum horizon
       → (top : ℕ) → GroupsFeasible groups quantum top
   pub on : (homes : List ℕ) (processor : ℕ) (graphs : List (List Edge)) (lines : List Rate) → AreRates graphs lines → AreRates (edges_on homes processor graphs) (lines_on homes processor lines)
-  pub edges : (unit : Whole) (graphs : List Graph) → IsOfText unit → AreGraphs unit graphs → All (λ graph. All (IsEdge (length graph.nodes)) graph.edges) graphs
   pub greatest : (graph : List Edge) (nodes : ℕ) (span : Span) (within : ℕ) → All (IsEdge nodes) graph → (n : ℕ) × IsGreatestWeight graph (Fits span within) n
 
-module _ (hold : LinesHold) (unit : Whole) (graphs : List Graph) (lines : List Rate) (until : ℕ) (text : IsOfText unit) (drawn : AreGraphs unit graphs) (rated : AreRates (edges_of graphs) lines) where
+module _ (hold : LinesHold) (unit : Whole) (graphs : List Graph) (lines : List Rate) (until : ℕ) (leads : All Leads graphs) (small : All IsSmall graphs) (rated : AreRates (edges_of graphs) lines) where
   demands : (processor within : ℕ) → (demand : ℕ) × IsDemand (edges_on (homes unit) processor (edges_of graphs)) within demand
-  demands = some_demand hold.edges unit graphs text drawn hold.greatest
+  demands = some_demand graphs leads small hold.greatest unit
 
   -- The edges on a processor
   abbrev own : ℕ → List (List Edge)
@@ -198,7 +200,7 @@ module _ (hold : LinesHold) (unit : Whole) (graphs : List Graph) (lines : List R
   always_met horizon is feasible top processor known within some most =
       let IsDrawn : List Edge → Type 0 = λ graph. (nodes : ℕ) × All (IsEdge nodes) graph in
       let all : All IsDrawn (edges_of graphs) = λ k d less. (
-      let (nodes, fit, few) = edges_fit hold.edges unit graphs text drawn k (get_or (edges_of graphs) k d) (slice_get-get_or (edges_of graphs) k d less) in
+      let (nodes, fit, few) = edges_fit graphs leads small k (get_or (edges_of graphs) k d) (slice_get-get_or (edges_of graphs) k d less) in
       (nodes, fit)) in
       let lead : AreDrawn (map own (range_with_len 0 PROCESSORS)) = by_each (All IsDrawn) own PROCESSORS (λ p less. holds_on IsDrawn (homes unit) p (edges_of graphs) (0, All-nil (IsEdge 0)) all) in
       by_one (λ gs. Suffices gs unit.quantum within) own PROCESSORS processor known
@@ -276,6 +278,10 @@ module _ (unit : Whole) (ways : WayLists) (until : ℕ) (follow : AreAllNexts un
 
 -- ---- what it says
 
+-- The edges of the graphs of a text lead from node to node.
+abbrev pub AllLead : Type 0
+AllLead = (unit : Whole) (graphs : List Graph) → IsOfText unit → AreGraphs unit graphs → All Leads graphs
+
 -- What is supplied up to the length that is looked at is supplied up to the last date, and the verdict is true.
 abbrev pub AllMet : Type 0
 AllMet = (unit : Whole) (graphs : List Graph) (lines : List Rate) (until : ℕ) (extent : Extent) → IsOfText unit → AreGraphs unit graphs → AreRates (edges_of graphs) lines → IsExtent unit.quantum (homes unit) lines until extent
@@ -287,17 +293,24 @@ supply_is all_met unit until supply text (graphs, drawn, (nexts, followed, (size
     let both = all_met unit graphs lines until extent text drawn rated looked feasible in
     subst (IsSupply unit until) (sym same) (record { drawn = drawn; followed = followed; sized = sized.0; rated = rated; feasible = both.0; met = both.1 })
 
+-- The same by given ways
+pub supply_is_by : LinesHold → (unit : Whole) (ways : WayLists) (until : ℕ) (supply : Supply) → ((graphs : List Graph) → AreGraphsBy unit ways.nexts graphs → All Leads graphs) → (supplying_by unit ways until).gives supply → IsSupplyBy unit ways until supply
+unfolding in_row
+supply_is_by hold unit ways until supply lead (graphs, drawn, (sizes, sized, (lines, rated, (extent, looked, (few, held, (done, feasible, same)))))) =
+    let both = looked_met hold unit graphs lines until (lead graphs drawn) (small_graphs_by unit ways.nexts graphs drawn) rated extent looked feasible in
+    subst (IsSupplyBy unit ways until) (sym same) (record { drawn = drawn; followed = refl; sized = sized.0; rated = rated; feasible = both.0; met = both.1 })
+
 -- Where the supply stops for the demand, the line tells the least length up to the last date over which it isn't supplied, and the least processor.
-pub supply_infeasible : LinesHold → (unit : Whole) (until length demand supply processor : ℕ) → IsOfText unit → (supplying unit until).stops (Infeasible length demand supply processor)
+pub supply_infeasible : LinesHold → AllLead → (unit : Whole) (until length demand supply processor : ℕ) → IsOfText unit → (supplying unit until).stops (Infeasible length demand supply processor)
     → (graphs : List Graph) × AreGraphs unit graphs × IsOverloadOn (homes unit) (edges_of graphs) unit.quantum until length processor demand × (supply ≡ unit.quantum * length)
 unfolding in_row
-supply_infeasible hold unit until within demand supply processor text (inr (graphs, drawn, inr (nexts, followed, inr (sizes, sized, inr (lines, rated, inr (extent, looked, inr (few, held, inl (over, is)))))))) =
-    (graphs, drawn, looked_overload hold unit graphs lines until text drawn rated within processor demand extent looked over, is)
-supply_infeasible hold unit until within demand supply processor text (inl never) = absurd never
-supply_infeasible hold unit until within demand supply processor text (inr (graphs, drawn, inl never)) = absurd never
-supply_infeasible hold unit until within demand supply processor text (inr (graphs, drawn, inr (nexts, followed, inl never))) = absurd never
-supply_infeasible hold unit until within demand supply processor text (inr (graphs, drawn, inr (nexts, followed, inr (sizes, sized, inl never)))) = absurd never
-supply_infeasible hold unit until within demand supply processor text (inr (graphs, drawn, inr (nexts, followed, inr (sizes, sized, inr (lines, rated, inl never))))) = absurd never
-supply_infeasible hold unit until within demand supply processor text (inr (graphs, drawn, inr (nexts, followed, inr (sizes, sized, inr (lines, rated, inr (extent, looked, inl (cells, passes))))))) =
+supply_infeasible hold lead unit until within demand supply processor text (inr (graphs, drawn, inr (nexts, followed, inr (sizes, sized, inr (lines, rated, inr (extent, looked, inr (few, held, inl (over, is)))))))) =
+    (graphs, drawn, looked_overload hold unit graphs lines until (lead unit graphs text drawn) (small_graphs unit graphs drawn) rated within processor demand extent looked over, is)
+supply_infeasible hold lead unit until within demand supply processor text (inl never) = absurd never
+supply_infeasible hold lead unit until within demand supply processor text (inr (graphs, drawn, inl never)) = absurd never
+supply_infeasible hold lead unit until within demand supply processor text (inr (graphs, drawn, inr (nexts, followed, inl never))) = absurd never
+supply_infeasible hold lead unit until within demand supply processor text (inr (graphs, drawn, inr (nexts, followed, inr (sizes, sized, inl never)))) = absurd never
+supply_infeasible hold lead unit until within demand supply processor text (inr (graphs, drawn, inr (nexts, followed, inr (sizes, sized, inr (lines, rated, inl never))))) = absurd never
+supply_infeasible hold lead unit until within demand supply processor text (inr (graphs, drawn, inr (nexts, followed, inr (sizes, sized, inr (lines, rated, inr (extent, looked, inl (cells, passes))))))) =
     let no : Infeasible within demand supply processor ≡ Cells = cells in absurd cc
-supply_infeasible hold unit until within demand supply processor text (inr (graphs, drawn, inr (nexts, followed, inr (sizes, sized, inr (lines, rated, inr (extent, looked, inr (few, held, inr (done, fits, never)))))))) = absurd never
+supply_infeasible hold lead unit until within demand supply processor text (inr (graphs, drawn, inr (nexts, followed, inr (sizes, sized, inr (lines, rated, inr (extent, looked, inr (few, held, inr (done, fits, never)))))))) = absurd never

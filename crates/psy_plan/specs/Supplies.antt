@@ -1,10 +1,10 @@
 -- What a program that its processors can run has, and the steps in a row that find it.
-use Rattle.std.specs.Prelude.{ℕ, List}
+use Rattle.std.specs.Prelude.{◌≡◌, ℕ, List}
 use Rattle.psy_base.specs.declared.sizes.Sizes.{Sizes}
 use Rattle.psy_base.specs.declared.ways.Ways.{Ways as WayLists}
 use Rattle.psy_demand.specs.Criterion.{edges_of}
 use Rattle.psy_graph.specs.declared.graph.Graph.{Graph}
-use Rattle.psy_graph.specs.Graphs.{AreGraphs}
+use Rattle.psy_graph.specs.Graphs.{AreGraphs, AreGraphsBy}
 use Rattle.psy_meaning.specs.BufferSizes.{AreSizes}
 use Rattle.psy_meaning.specs.Demand.{AreFeasible}
 use Rattle.psy_meaning.specs.Flow.{AreAllNexts}
@@ -73,6 +73,15 @@ pub record IsSupply (unit : Whole) (until : ℕ) (supply : Supply) : Type 0 wher
   pub drawn : AreGraphs unit supply.graphs
   pub followed : AreAllNexts unit supply.nexts
   pub sized : AreSizes unit (OfText unit) supply.nexts supply.sizes
+  pub rated : AreRates (edges_of supply.graphs) supply.lines
+  pub feasible : AreFeasible (homes unit) (edges_of supply.graphs) unit.quantum until
+  pub met : IsMet unit supply.graphs supply.extent
+
+-- The same by given ways of its actions
+pub record IsSupplyBy (unit : Whole) (ways : WayLists) (until : ℕ) (supply : Supply) : Type 0 where
+  pub drawn : AreGraphsBy unit ways.nexts supply.graphs
+  pub followed : supply.nexts ≡ ways.nexts
+  pub sized : AreSizes unit (Listed ways) ways.nexts supply.sizes
   pub rated : AreRates (edges_of supply.graphs) supply.lines
   pub feasible : AreFeasible (homes unit) (edges_of supply.graphs) unit.quantum until
   pub met : IsMet unit supply.graphs supply.extent

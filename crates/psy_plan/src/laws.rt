@@ -1,22 +1,24 @@
 //! Laws of what comes of a text and of a program: it is one thing, and what it says of demand is true.
 ghost use Rattle.std.specs.Prelude.{◌≡◌, ℕ, ◌*◌, ◌≤◌, List, length};
 ghost use Rattle.psy_base.specs.declared.limits.TheConstants.{FILE_BYTES};
+ghost use Rattle.psy_base.specs.declared.ways.Ways.{Ways as WayLists};
 ghost use Rattle.psy_demand.specs.Criterion.{edges_of};
 ghost use Rattle.psy_graph.specs.declared.graph.Graph.{Graph};
 ghost use Rattle.psy_graph.specs.Graphs.{AreGraphs};
 ghost use Rattle.psy_meaning.specs.Demand.{AreFeasible, IsOverloadOn};
-ghost use Rattle.psy_meaning.specs.Units.{IsOfText};
+ghost use Rattle.psy_meaning.specs.ListedWays.{AreWaysFor};
+ghost use Rattle.psy_meaning.specs.Units.{IsBare, IsOfText};
 ghost use Rattle.psy_rate.specs.declared.line.Rate.{Rate};
 ghost use Rattle.psy_rate.specs.Lines.{AreRates};
 ghost use Rattle.psy_tree.specs.Parts.{homes};
 ghost use Rattle.psy_tree.specs.declared.unit.Unit.{Unit as Whole};
 ghost use Rattle.psy_plan.specs.declared.extent.Extent.{Extent};
 ghost use Rattle.psy_plan.specs.declared.refusal.Refusal.TheVariants.{Infeasible};
-ghost use Rattle.psy_plan.specs.Courses.{IsDecided};
+ghost use Rattle.psy_plan.specs.Courses.{IsDecided, IsOne};
 ghost use Rattle.psy_plan.specs.Extents.{IsExtent, length_of};
 ghost use Rattle.psy_plan.specs.Programs.{IsProgram, translating};
 ghost use Rattle.psy_plan.specs.Steps.{costing, graphing};
-ghost use Rattle.psy_plan.specs.Supplies.{IsMet, IsSupply, Supply, supplying};
+ghost use Rattle.psy_plan.specs.Supplies.{IsMet, IsSupply, IsSupplyBy, Supply, supplying, supplying_by};
 
 use psy_flow::laws::{costs, nexts};
 use psy_graph::laws::one_graph;
@@ -24,7 +26,7 @@ use psy_meaning::laws::of_text;
 use psy_parse::laws::one_tree;
 use psy_rate::laws::{always, horizons, rates};
 use psy_rules::laws::one_verdict;
-use psy_sizes::laws::one_size;
+use psy_sizes::laws::{one_size, one_size_by};
 use psy_token::laws::one_reading;
 use psy_window::laws::greatest;
 
@@ -43,6 +45,15 @@ pub fn one_plan()
     nexts();
     one_size();
     greatest();
+    rates();
+    horizons();
+}
+
+/// By given ways of its actions a program comes to one list of what it needs at most, or to one refusal, and not to both.
+pub fn by_ways()
+    ensures { (unit : Whole) (ways : WayLists) (until : ℕ) → IsBare unit → AreWaysFor unit ways → IsOne (supplying_by unit ways until) }
+{
+    one_size_by();
     rates();
     horizons();
 }
@@ -83,4 +94,15 @@ pub fn supplies()
     ensures { (unit : Whole) (until : ℕ) (supply : Supply) → IsOfText unit → (supplying unit until).gives supply → IsSupply unit until supply }
 {
     extents();
+}
+
+/// The same by given ways of its actions.
+pub fn supplies_by()
+    ensures { (unit : Whole) (ways : WayLists) (until : ℕ) (supply : Supply) → IsBare unit → AreWaysFor unit ways
+        → (supplying_by unit ways until).gives supply → IsSupplyBy unit ways until supply }
+{
+    always();
+    rates();
+    one_graph();
+    greatest();
 }

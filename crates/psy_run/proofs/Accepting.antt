@@ -1,35 +1,44 @@
 -- What words come to keeps its bounds; what a check tells is borne out, and what it accepts can be run.
-use Rattle.std.proofs.Common.{◌≡◌, ◌∙◌, refl, sym, subst, ℕ, ◌*◌, ◌≤◌, List, length, Option, None, Some, ℤ}
+use Rattle.std.proofs.Common.{◌≡◌, ◌∙◌, refl, sym, subst, ap, ℕ, ◌*◌, ◌≤◌, List, length, Option, None, Some, ℤ}
+use Rattle.std.specs.Prelude.{FitsSigned}
+use Rattle.std.specs.Int.{w32}
+use Rattle.std.specs.List.{All}
 use Rattle.psy_base.specs.declared.limits.TheConstants.{FILE_BYTES, RUN}
+use Rattle.psy_base.specs.declared.ways.Ways.{Ways as WayLists}
 use Rattle.psy_dates.specs.declared.plan.Plan.{Plan}
+use Rattle.psy_dates.specs.Plans.{IsPlan}
 use Rattle.psy_door.specs.Files.{Files, bytes_under}
 use Rattle.psy_gen.specs.Emission.{code_of}
 use Rattle.psy_graph.specs.Graphs.{IsTimingOf}
 use Rattle.psy_history.specs.Compiled.{AreInputs}
 use Rattle.psy_history.specs.declared.told.Script.{Script as Said}
 use Rattle.psy_history.specs.Scripts.{IsScript, order_of}
+use Rattle.psy_image.specs.declared.image.Image.{Image as CodeImage}
+use Rattle.psy_image.specs.Images.{spells_image}
 use Rattle.psy_make.specs.Text.{made_text}
 use Rattle.psy_meaning.specs.Alike.{ActsAlike}
 use Rattle.psy_meaning.specs.Timing.{Timing}
-use Rattle.psy_meaning.specs.Units.{IsOfText}
+use Rattle.psy_meaning.specs.Units.{IsBare, IsOfText}
 use Rattle.psy_script.specs.Inputs.{AreListsOf}
 use Rattle.psy_script.specs.Script.{IsScriptOf}
 use Rattle.psy_tree.specs.declared.unit.Unit.{Unit as Whole}
 use Rattle.psy_history.proofs.lemmas.NoInputs.{are_no_inputs}
+use Rattle.psy_plan.specs.Courses.{in_row as plan_in_row}
 use Rattle.psy_plan.specs.Supplies.{IsSupply, Supply}
 use Rattle.psy_plan.specs.Supplies as supplies
 use Rattle.psy_run.specs.Accepted.{IsRunnable}
-use Rattle.psy_run.specs.Answer.{Answers, refused, served, compiling, supplying, listing, scripting, running, trying, serving, answering}
-use Rattle.psy_run.specs.Asked.{Asks, Command, Run, Check, Graph, Make, Trial}
+use Rattle.psy_run.specs.Answer.{Answers, refused, served, compiling, supplying, supplying_by, listing, scripting, running, trying, executing, serving, answering}
+use Rattle.psy_run.specs.Asked.{Asks, Command, Run, Check, Graph, Make, Trial, Build, Exec, Audit}
 use Rattle.psy_run.specs.Bounds.{IsBounded, IsBorneOut, KeepsBounds}
 use Rattle.psy_run.specs.Courses.{in_row}
 use Rattle.psy_run.specs.Planned.{IsStatedPlan}
-use Rattle.psy_run.specs.Services.{Service, Ran, meaning_of, no_inputs, no_script}
+use Rattle.psy_run.specs.Services.{Service, Ran, meaning_by, meaning_of, no_inputs, no_script}
+use Rattle.psy_verify.specs.Fits.{IsChecked}
 use Rattle.psy_run.proofs.AskingForms.{decided_asking}
 use Rattle.psy_run.proofs.Courses.{gives_then}
 use Rattle.psy_run.proofs.DecidedAnswers.{compiled, translated}
 use Rattle.psy_run.proofs.DecidedSteps.{TextsHold}
-use Rattle.psy_run.proofs.MeaningText.{Keeps, is_no_script}
+use Rattle.psy_run.proofs.MeaningText.{Keeps, KeepsByCode, is_no_script}
 use Rattle.psy_run.proofs.PlanLemmas.{Apart, is_feasible_for}
 use Rattle.psy_run.proofs.TopLemmas.{AllBounded, status_some}
 
@@ -50,6 +59,15 @@ pub record RunsHold : Type 0 where
   pub script : (unit : Whole) (text : List ℕ) (said : Said) → IsScriptOf unit text said → IsScript unit said
   pub keeps : Keeps
   pub met : SuppliesHold
+  pub sound : (bytes : List ℕ) (it : CodeImage) → spells_image it bytes → IsBare it.unit × All (λ v. FitsSigned w32 v.init) it.unit.variables
+  pub fits : (plan : Plan) (ways : WayLists) (supply : Supply) → IsBare plan.unit → All (λ v. FitsSigned w32 v.init) plan.unit.variables → IsChecked plan.unit plan.code ways → (supplying_by plan.unit ways plan.until).gives supply
+      → plan.nexts ≡ ways.nexts → plan.sizes ≡ supply.sizes → IsPlan plan
+  pub keeps_by : KeepsByCode
+
+-- The points that follow are those of the ways.
+supplied_nexts : (unit : Whole) (ways : WayLists) (until : ℕ) (supply : Supply) → (supplies.supplying_by unit ways until).gives supply → supply.nexts ≡ ways.nexts
+unfolding plan_in_row
+supplied_nexts unit ways until supply (graphs, drawn, (sizes, sized, (lines, rated, (extent, looked, (few, held, (done, feasible, is)))))) = ap (λ (s : Supply). s.nexts) is
 
 module _ (hold : RunsHold) where
   -- A program that is supplied has a plan, and so keeps its bounds.
@@ -89,6 +107,19 @@ module _ (hold : RunsHold) where
       subst IsBounded (sym is)
       (supplied_bounded unit until supply (no_inputs unit) no_script (translated hold.of_text (made_text seed) unit (hold.short seed) made) supplied (are_no_inputs unit) (is_no_script unit))
 
+  -- An image that is supplied has a plan too.
+  executed_bounded : (bytes : List ℕ) (it : CodeImage) (ways : WayLists) (until : ℕ) (supply : Supply) (lists : List (List ℤ)) (said : Said) → spells_image it bytes → IsChecked it.unit it.code ways
+      → (supplying_by it.unit ways until).gives supply → AreInputs it.unit lists → IsScript it.unit said → KeepsBounds (meaning_by it.unit it.code supply.nexts lists said) (order_of it.unit said) supply.sizes until
+  executed_bounded bytes it ways until supply lists said spelled checked supplied are script =
+      let plan : Plan = record { unit = it.unit; code = it.code; nexts = supply.nexts; sizes = supply.sizes; until = until } in
+      let sound = hold.sound bytes it spelled in
+      hold.keeps_by plan lists said (hold.fits plan ways supply sound.0 sound.1 checked supplied (supplied_nexts it.unit ways until supply supplied) refl) are script
+
+  executing_bounded : (files : Option Files) (name : List ℕ) (until : ℕ) (inputs script : Option (List ℕ)) (done : Service) → (executing files name until inputs script).gives done → IsBounded done
+  unfolding in_row
+  executing_bounded files name until inputs script done (bytes, read, (it, spelled, (ways, checked, (supply, supplied, (lists, listed, (said, told, (paced, fits, is))))))) =
+      subst IsBounded (sym is) (executed_bounded bytes it ways until supply lists said spelled checked supplied (listed_inputs files it.unit inputs lists listed) (told_script files it.unit script said told))
+
   serving_bounded : (files : Option Files) (command : Command) (done : Service) → (serving files command).gives done → IsBounded done
   unfolding in_row
   serving_bounded files (Run name until inputs script) done gives = running_bounded files name until inputs script done gives
@@ -96,6 +127,9 @@ module _ (hold : RunsHold) where
   serving_bounded files (Graph name) done (unit, made, (graphs, drawn, (costs, found, is))) = subst IsBounded (sym is) tt
   serving_bounded files (Make seed) done is = subst IsBounded (sym is) tt
   serving_bounded files (Trial seed until) done gives = trying_bounded seed until done gives
+  serving_bounded files (Build name) done (unit, made, (image, imaged, is)) = subst IsBounded (sym is) tt
+  serving_bounded files (Exec name until inputs script) done gives = executing_bounded files name until inputs script done gives
+  serving_bounded files (Audit name until trace script) done (unit, made, (supply, supplied, (text, read, (said, told, (paced, fits, (counts, judged, is)))))) = subst IsBounded (sym is) tt
 
   pub answering_bounded : (words : List (List ℕ)) (files : Option Files) (done : Service) → (answering words files).gives done → IsBounded done
   unfolding in_row
@@ -113,6 +147,9 @@ module _ (of_text : TextsHold) (met : SuppliesHold) where
   serving_borne_out files (Graph name) done (unit, made, (graphs, drawn, (costs, found, is))) = subst IsBorneOut (sym is) tt
   serving_borne_out files (Make seed) done is = subst IsBorneOut (sym is) tt
   serving_borne_out files (Trial seed until) done (unit, made, (supply, supplied, (paced, fits, is))) = subst IsBorneOut (sym is) tt
+  serving_borne_out files (Build name) done (unit, made, (image, imaged, is)) = subst IsBorneOut (sym is) tt
+  serving_borne_out files (Exec name until inputs script) done (bytes, read, (it, spelled, (ways, checked, (supply, supplied, (lists, listed, (said, told, (paced, fits, is))))))) = subst IsBorneOut (sym is) tt
+  serving_borne_out files (Audit name until trace script) done (unit, made, (supply, supplied, (text, read, (said, told, (paced, fits, (counts, judged, is)))))) = subst IsBorneOut (sym is) tt
 
   pub answering_borne_out : (words : List (List ℕ)) (files : Option Files) (done : Service) → (answering words files).gives done → IsBorneOut done
   unfolding in_row

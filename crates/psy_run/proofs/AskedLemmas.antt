@@ -6,7 +6,7 @@ use Rattle.std.proofs.lemmas.Option.{cond_some, option_and_then_some}
 use Rattle.psy_base.specs.declared.limits.TheConstants.{UNTIL}
 use Rattle.psy_lists.proofs.lemmas.Texts.{same_text}
 use Rattle.psy_text.specs.Words.{number_of}
-use Rattle.psy_run.specs.Asked.{IsDate, IsSeed, Command, Run, Check, Graph, Make, Trial, Asks, asks_run, asks_run_with_inputs, asks_run_with_script, asks_check, asks_graph, asks_make, asks_trial, AskNothing}
+use Rattle.psy_run.specs.Asked.{IsDate, IsSeed, Command, Run, Check, Graph, Make, Trial, Build, Exec, Audit, Asks, asks_run, asks_run_with_inputs, asks_run_with_script, asks_check, asks_graph, asks_make, asks_trial, asks_build, asks_exec, asks_exec_with_inputs, asks_exec_with_script, asks_audit, asks_audit_with_script, AskNothing}
 
 -- What is made from the items from one place on, item by item
 pub map-next : {X Y : Type 0} {x : X} {y : Y} {ys : List Y} (f : X → Y) (xs : List X) (k : ℕ) → k < length xs → x ≡ get_or xs k x → y ≡ f x → map f (drop (suc k) xs) ≡ ys → map f (drop k xs) ≡ y ∷ ys
@@ -69,15 +69,25 @@ from_seed word seed is =
 unfoldable pub command_of : List (List ℕ) → Option Command
 command_of (first ∷ word ∷ []) =
     if bytes_eq first (codes "graph") then Some (Graph word)
+    else if bytes_eq first (codes "build") then Some (Build word)
     else if bytes_eq first (codes "make") then option_and_then (λ seed. Some (Make seed)) (seed_of word)
     else None
 command_of (first ∷ word ∷ date ∷ []) = option_and_then (λ until.
     if bytes_eq first (codes "run") then Some (Run word until None None)
+    else if bytes_eq first (codes "exec") then Some (Exec word until None None)
     else if bytes_eq first (codes "check") then Some (Check word until)
     else if bytes_eq first (codes "trial") then option_and_then (λ seed. Some (Trial seed until)) (seed_of word)
     else None) (date_of date)
-command_of (first ∷ word ∷ date ∷ inputs ∷ []) = option_and_then (λ until. if bytes_eq first (codes "run") then Some (Run word until (Some inputs) None) else None) (date_of date)
-command_of (first ∷ word ∷ date ∷ inputs ∷ script ∷ []) = option_and_then (λ until. if bytes_eq first (codes "run") then Some (Run word until (Some inputs) (Some script)) else None) (date_of date)
+command_of (first ∷ word ∷ date ∷ inputs ∷ []) = option_and_then (λ until.
+    if bytes_eq first (codes "run") then Some (Run word until (Some inputs) None)
+    else if bytes_eq first (codes "exec") then Some (Exec word until (Some inputs) None)
+    else if bytes_eq first (codes "audit") then Some (Audit word until inputs None)
+    else None) (date_of date)
+command_of (first ∷ word ∷ date ∷ inputs ∷ script ∷ []) = option_and_then (λ until.
+    if bytes_eq first (codes "run") then Some (Run word until (Some inputs) (Some script))
+    else if bytes_eq first (codes "exec") then Some (Exec word until (Some inputs) (Some script))
+    else if bytes_eq first (codes "audit") then Some (Audit word until inputs (Some script))
+    else None) (date_of date)
 command_of _ = None
 
 pub to_command : (words : List (List ℕ)) (command : Command) → Asks words command → command_of words ≡ Some command
@@ -93,6 +103,15 @@ to_command words command (asks_make number seed is seeded) = ap command_of is �
 to_command words command (asks_trial number date seed until is seeded dated) =
     ap command_of is ∙ ap (option_and_then (λ until. option_and_then (λ seed. Some (Trial seed until)) (seed_of number))) (to_date date until dated)
     ∙ ap (option_and_then (λ seed. Some (Trial seed until))) (to_seed number seed seeded)
+to_command words command (asks_build program is) = ap command_of is
+to_command words command (asks_exec image date until is dated) = ap command_of is ∙ ap (option_and_then (λ until. Some (Exec image until None None))) (to_date date until dated)
+to_command words command (asks_exec_with_inputs image date inputs until is dated) =
+    ap command_of is ∙ ap (option_and_then (λ until. Some (Exec image until (Some inputs) None))) (to_date date until dated)
+to_command words command (asks_exec_with_script image date inputs script until is dated) =
+    ap command_of is ∙ ap (option_and_then (λ until. Some (Exec image until (Some inputs) (Some script)))) (to_date date until dated)
+to_command words command (asks_audit program date trace until is dated) = ap command_of is ∙ ap (option_and_then (λ until. Some (Audit program until trace None))) (to_date date until dated)
+to_command words command (asks_audit_with_script program date trace script until is dated) =
+    ap command_of is ∙ ap (option_and_then (λ until. Some (Audit program until trace (Some script)))) (to_date date until dated)
 
 -- `make` and a word that is no seed ask for nothing.
 pub unmade : (first word : List ℕ) → true ≡ bytes_eq first (codes "make") → ((seed : ℕ) → IsSeed word seed → ⊥) → AskNothing (first ∷ word ∷ [])
@@ -108,3 +127,19 @@ untried first word date trial none command asks =
     let is = to_command (codes "trial" ∷ word ∷ date ∷ []) command (subst (λ w. Asks (w ∷ word ∷ date ∷ []) command) (same_text first (codes "trial") trial) asks) in
     option_and_then_some (λ until. option_and_then (λ seed. Some (Trial seed until)) (seed_of word)) (date_of date) command is
     (λ until when that. option_and_then_some (λ seed. Some (Trial seed until)) (seed_of word) command that (λ seed found same. none seed (from_seed word seed found)))
+
+-- So do words whose third one is no date.
+pub undated_three : (first word date : List ℕ) → ((until : ℕ) → IsDate date until → ⊥) → AskNothing (first ∷ word ∷ date ∷ [])
+unfolding command_of
+undated_three first word date none command asks =
+    option_and_then_some _ (date_of date) command (to_command (first ∷ word ∷ date ∷ []) command asks) (λ until found that. none until (from_date date until found))
+
+pub undated_four : (first program date inputs : List ℕ) → ((until : ℕ) → IsDate date until → ⊥) → AskNothing (first ∷ program ∷ date ∷ inputs ∷ [])
+unfolding command_of
+undated_four first program date inputs none command asks =
+    option_and_then_some _ (date_of date) command (to_command (first ∷ program ∷ date ∷ inputs ∷ []) command asks) (λ until found that. none until (from_date date until found))
+
+pub undated_five : (first program date inputs script : List ℕ) → ((until : ℕ) → IsDate date until → ⊥) → AskNothing (first ∷ program ∷ date ∷ inputs ∷ script ∷ [])
+unfolding command_of
+undated_five first program date inputs script none command asks =
+    option_and_then_some _ (date_of date) command (to_command (first ∷ program ∷ date ∷ inputs ∷ script ∷ []) command asks) (λ until found that. none until (from_date date until found))

@@ -3,7 +3,7 @@ use Rattle.std.proofs.Common.{◌≡◌, ◌∙◌, sym, subst, ap, refl, ℕ, L
 use Rattle.std.proofs.lemmas.Option.{none-some, same_Some, option_and_then_some}
 use Rattle.psy_lists.proofs.lemmas.Texts.{same_text}
 use Rattle.psy_run.specs.declared.refusal.Refusal.TheVariants.{Words}
-use Rattle.psy_run.specs.Asked.{Command, Asks, asks_run, asks_run_with_inputs, asks_run_with_script, asks_check, asks_graph, asks_make, asks_trial}
+use Rattle.psy_run.specs.Asked.{Command, Asks, asks_run, asks_run_with_inputs, asks_run_with_script, asks_check, asks_graph, asks_make, asks_trial, asks_build, asks_exec, asks_exec_with_inputs, asks_exec_with_script, asks_audit, asks_audit_with_script}
 use Rattle.psy_run.specs.Steps.{asking}
 use Rattle.psy_run.proofs.AskedLemmas.{date_of, from_date, seed_of, from_seed, command_of, to_command}
 use Rattle.psy_run.proofs.Courses.{IsSome, IsDecided}
@@ -20,10 +20,13 @@ of_two : (first word : List ℕ) (command : Command) → command_of (first ∷ w
 unfolding command_of
 of_two first word command is = elim (chosen first (codes "graph") _ _ command is) [
   | inl graph ↦ subst (Asks (first ∷ word ∷ [])) (same_Some _ command graph.1) (asks_graph word (ap (λ w. w ∷ word ∷ []) graph.0))
-  | inr other ↦ elim (chosen first (codes "make") _ _ command other) [
-    | inl make ↦ option_and_then_some _ (seed_of word) command make.1
-        (λ seed found same. subst (Asks (first ∷ word ∷ [])) (same_Some _ command same) (asks_make word seed (ap (λ w. w ∷ word ∷ []) make.0) (from_seed word seed found)))
-    | inr none ↦ absurd (none-some command none)
+  | inr other ↦ elim (chosen first (codes "build") _ _ command other) [
+    | inl build ↦ subst (Asks (first ∷ word ∷ [])) (same_Some _ command build.1) (asks_build word (ap (λ w. w ∷ word ∷ []) build.0))
+    | inr neither ↦ elim (chosen first (codes "make") _ _ command neither) [
+      | inl make ↦ option_and_then_some _ (seed_of word) command make.1
+          (λ seed found same. subst (Asks (first ∷ word ∷ [])) (same_Some _ command same) (asks_make word seed (ap (λ w. w ∷ word ∷ []) make.0) (from_seed word seed found)))
+      | inr none ↦ absurd (none-some command none)
+    ]
   ]
 ]
 
@@ -31,12 +34,15 @@ of_three : (first word date : List ℕ) (command : Command) → command_of (firs
 unfolding command_of
 of_three first word date command is = option_and_then_some _ (date_of date) command is (λ until found that. elim (chosen first (codes "run") _ _ command that) [
   | inl run ↦ subst (Asks (first ∷ word ∷ date ∷ [])) (same_Some _ command run.1) (asks_run word date until (ap (λ w. w ∷ word ∷ date ∷ []) run.0) (from_date date until found))
-  | inr other ↦ elim (chosen first (codes "check") _ _ command other) [
-    | inl check ↦ subst (Asks (first ∷ word ∷ date ∷ [])) (same_Some _ command check.1) (asks_check word date until (ap (λ w. w ∷ word ∷ date ∷ []) check.0) (from_date date until found))
-    | inr neither ↦ elim (chosen first (codes "trial") _ _ command neither) [
-      | inl trial ↦ option_and_then_some _ (seed_of word) command trial.1
-          (λ seed drawn same. subst (Asks (first ∷ word ∷ date ∷ [])) (same_Some _ command same) (asks_trial word date seed until (ap (λ w. w ∷ word ∷ date ∷ []) trial.0) (from_seed word seed drawn) (from_date date until found)))
-      | inr none ↦ absurd (none-some command none)
+  | inr other ↦ elim (chosen first (codes "exec") _ _ command other) [
+    | inl exec ↦ subst (Asks (first ∷ word ∷ date ∷ [])) (same_Some _ command exec.1) (asks_exec word date until (ap (λ w. w ∷ word ∷ date ∷ []) exec.0) (from_date date until found))
+    | inr neither ↦ elim (chosen first (codes "check") _ _ command neither) [
+      | inl check ↦ subst (Asks (first ∷ word ∷ date ∷ [])) (same_Some _ command check.1) (asks_check word date until (ap (λ w. w ∷ word ∷ date ∷ []) check.0) (from_date date until found))
+      | inr last ↦ elim (chosen first (codes "trial") _ _ command last) [
+        | inl trial ↦ option_and_then_some _ (seed_of word) command trial.1
+            (λ seed drawn same. subst (Asks (first ∷ word ∷ date ∷ [])) (same_Some _ command same) (asks_trial word date seed until (ap (λ w. w ∷ word ∷ date ∷ []) trial.0) (from_seed word seed drawn) (from_date date until found)))
+        | inr none ↦ absurd (none-some command none)
+      ]
     ]
   ]
 ])
@@ -46,7 +52,15 @@ unfolding command_of
 of_four first program date inputs command is = option_and_then_some _ (date_of date) command is (λ until found that. elim (chosen first (codes "run") _ _ command that) [
   | inl run ↦ subst (Asks (first ∷ program ∷ date ∷ inputs ∷ [])) (same_Some _ command run.1)
       (asks_run_with_inputs program date inputs until (ap (λ w. w ∷ program ∷ date ∷ inputs ∷ []) run.0) (from_date date until found))
-  | inr none ↦ absurd (none-some command none)
+  | inr other ↦ elim (chosen first (codes "exec") _ _ command other) [
+    | inl exec ↦ subst (Asks (first ∷ program ∷ date ∷ inputs ∷ [])) (same_Some _ command exec.1)
+        (asks_exec_with_inputs program date inputs until (ap (λ w. w ∷ program ∷ date ∷ inputs ∷ []) exec.0) (from_date date until found))
+    | inr neither ↦ elim (chosen first (codes "audit") _ _ command neither) [
+      | inl audit ↦ subst (Asks (first ∷ program ∷ date ∷ inputs ∷ [])) (same_Some _ command audit.1)
+          (asks_audit program date inputs until (ap (λ w. w ∷ program ∷ date ∷ inputs ∷ []) audit.0) (from_date date until found))
+      | inr none ↦ absurd (none-some command none)
+    ]
+  ]
 ])
 
 of_five : (first program date inputs script : List ℕ) (command : Command) → command_of (first ∷ program ∷ date ∷ inputs ∷ script ∷ []) ≡ Some command → Asks (first ∷ program ∷ date ∷ inputs ∷ script ∷ []) command
@@ -54,7 +68,15 @@ unfolding command_of
 of_five first program date inputs script command is = option_and_then_some _ (date_of date) command is (λ until found that. elim (chosen first (codes "run") _ _ command that) [
   | inl run ↦ subst (Asks (first ∷ program ∷ date ∷ inputs ∷ script ∷ [])) (same_Some _ command run.1)
       (asks_run_with_script program date inputs script until (ap (λ w. w ∷ program ∷ date ∷ inputs ∷ script ∷ []) run.0) (from_date date until found))
-  | inr none ↦ absurd (none-some command none)
+  | inr other ↦ elim (chosen first (codes "exec") _ _ command other) [
+    | inl exec ↦ subst (Asks (first ∷ program ∷ date ∷ inputs ∷ script ∷ [])) (same_Some _ command exec.1)
+        (asks_exec_with_script program date inputs script until (ap (λ w. w ∷ program ∷ date ∷ inputs ∷ script ∷ []) exec.0) (from_date date until found))
+    | inr neither ↦ elim (chosen first (codes "audit") _ _ command neither) [
+      | inl audit ↦ subst (Asks (first ∷ program ∷ date ∷ inputs ∷ script ∷ [])) (same_Some _ command audit.1)
+          (asks_audit_with_script program date inputs script until (ap (λ w. w ∷ program ∷ date ∷ inputs ∷ script ∷ []) audit.0) (from_date date until found))
+      | inr none ↦ absurd (none-some command none)
+    ]
+  ]
 ])
 
 from_command : (words : List (List ℕ)) (command : Command) → command_of words ≡ Some command → Asks words command

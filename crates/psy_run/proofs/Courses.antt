@@ -4,7 +4,7 @@ use Rattle.std.specs.Result.{IsErrAnd}
 use Rattle.psy_plan.specs.declared.refusal.Refusal.{Refusal as Cause}
 use Rattle.psy_plan.specs.declared.refusal.Stop.{Stop as PlanStop}
 use Rattle.psy_plan.specs.declared.refusal.Stop.TheVariants as at_plan
-use Rattle.psy_plan.specs.Courses.{Course as Plan, Stops, IsDecided as IsPlanDecided}
+use Rattle.psy_plan.specs.Courses.{Course as Plan, Stops, IsDecided as IsPlanDecided, IsOne as IsPlanOne}
 use Rattle.psy_run.specs.declared.refusal.Refusal.{Refusal}
 use Rattle.psy_run.specs.declared.refusal.Refusal.TheVariants.{Unplanned}
 use Rattle.psy_run.specs.declared.refusal.Stop.{Stop}
@@ -163,17 +163,21 @@ planned_is : {X : Type 0} (c : Plan X) (refusal : Refusal) → (planned c).stops
 planned_is c (Unplanned cause) stops = (cause, refl, stops)
 planned_is c _ never = absurd never
 
--- They come to one end, where the plan does.
+-- They come to one end at most, where the plan does.
+pub one_planned : {X : Type 0} (c : Plan X) → IsPlanOne c → IsOne (planned c)
+one_planned c one = record {
+  gift = one.gift;
+  stop = λ r s p q.
+      let (cause, is, stops) = planned_is c r p in
+      let (other, is', stops') = planned_is c s q in
+      is ∙ ap Unplanned (one.stop cause other stops stops') ∙ sym is';
+  apart = λ x r p q. let (cause, is, stops) = planned_is c r q in one.apart x cause p stops;
+}
+
+-- And to some, where it does.
 pub decided_planned : {X : Type 0} (c : Plan X) → IsPlanDecided c → IsDecided (planned c)
 decided_planned c decided = record {
-  one = record {
-    gift = decided.one.gift;
-    stop = λ r s p q.
-        let (cause, is, stops) = planned_is c r p in
-        let (other, is', stops') = planned_is c s q in
-        is ∙ ap Unplanned (decided.one.stop cause other stops stops') ∙ sym is';
-    apart = λ x r p q. let (cause, is, stops) = planned_is c r q in decided.one.apart x cause p stops;
-  };
+  one = one_planned c decided.one;
   some = elim decided.some [
     | inl gift ↦ inl gift
     | inr stop ↦ inr (Unplanned stop.0, stop.1)

@@ -103,6 +103,10 @@ wrote_text a b (Err fault) lines cut =
     front_by : (cut : IsCutAt a b lines fault.taken) → GrewByFront a b (text_of cut.before ++ cut.line)
     front_by cut = (length (text_of cut.before) + fault.taken, subst (Grew a b) (sym (take-append-add (text_of cut.before) cut.line fault.taken)) cut.grew)
 
+-- One line alone was written, or a front of it.
+pub wrote_one : (a b : Option (List ℕ)) (result : Result (Unit {0}) WriteFault) (line : List ℕ) → Wrote a b result (line ∷ []) → Written a b result line
+wrote_one a b result line wrote = subst (Written a b result) (append-nil line) (wrote_text a b result (line ∷ []) wrote)
+
 -- And as lines they were cut.
 pub wrote_cut : (a b : Option (List ℕ)) (result : Result (Unit {0}) WriteFault) (lines : List (List ℕ)) → Wrote a b result lines → IfErr result (λ fault. IsCutAt a b lines fault.taken)
 wrote_cut a b (Ok done) lines wrote = tt

@@ -1,5 +1,5 @@
 -- Words have one answer, where files are told, and no other.
-use Rattle.std.proofs.Common.{◌≡◌, ap, refl, ℕ, ◌≤◌, List, length, Option, None, Some, inl, inr}
+use Rattle.std.proofs.Common.{◌≡◌, ap, subst, refl, ℕ, ◌≤◌, List, length, Option, None, Some, inl, inr}
 use Rattle.psy_base.specs.declared.limits.TheConstants.{FILE_BYTES}
 use Rattle.psy_door.specs.Files.{Files}
 use Rattle.psy_meaning.specs.Units.{IsOfText}
@@ -10,14 +10,17 @@ use Rattle.psy_plan.specs.Steps as plan
 use Rattle.psy_plan.specs.Supplies as supplies
 use Rattle.psy_run.specs.declared.refusal.File.TheVariants as file
 use Rattle.psy_run.specs.declared.refusal.Refusal.{Refusal}
-use Rattle.psy_run.specs.Answer.{Answers, refused, served, answering, serving, translating, compiling, supplying, listing, scripting, running, checking, drawing, planning, trying}
-use Rattle.psy_run.specs.Asked.{Command, Run, Check, Graph as Draw, Make, Trial}
+use Rattle.psy_run.specs.Answer.{Answers, refused, served, answering, serving, translating, compiling, supplying, listing, scripting, running, checking, drawing, building, executing, judging, planning, trying}
+use Rattle.psy_run.specs.Asked.{Asks, Command, Run, Check, Graph as Draw, Make, Trial, Build, Exec, Audit}
 use Rattle.psy_run.specs.Courses.{in_row}
 use Rattle.psy_run.specs.Refusals.{status_of, line_of}
-use Rattle.psy_run.specs.Services.{Service, Ran, Checked, Drawn, Made, Tried, no_inputs, no_script, text_of}
+use Rattle.psy_run.specs.Services.{Service, Ran, Checked, Drawn, Made, Tried, Built, Executed, Audited, no_inputs, no_script, text_of}
+use Rattle.psy_run.specs.Steps.{judged_by}
 use Rattle.psy_run.proofs.AskingForms.{decided_asking}
-use Rattle.psy_run.proofs.Courses.{IsDecided, decided_planned, decided_pure, decided_then}
+use Rattle.psy_run.proofs.Courses.{IsDecided, IsOne, IsSome, decided_planned, decided_pure, decided_then, one_pure, one_then, some_then}
+use Rattle.psy_run.proofs.DecidedImages.{ImagesDecide, decided_imaging, one_decoding, one_supplying_by, one_verifying}
 use Rattle.psy_run.proofs.DecidedSteps.{PlansDecide, TextsHold, decided_reading, decided_stating, decided_directing, decided_pacing}
+use Rattle.psy_run.proofs.DecidedTraces.{decided_auditing}
 
 -- A program of a short text is one of a text.
 pub translated : TextsHold → (bytes : List ℕ) (unit : Whole) → length bytes ≤ FILE_BYTES → (translating bytes).gives unit → IsOfText unit
@@ -27,6 +30,11 @@ translated of_text bytes unit short made = of_text bytes unit short made
 pub compiled : TextsHold → (files : Option Files) (name : List ℕ) (unit : Whole) → (compiling files name).gives unit → IsOfText unit
 unfolding in_row
 compiled of_text files name unit (bytes, read, made) = translated of_text bytes unit read.0 made
+
+-- And it is the program of some text that is short enough to be read.
+compiled_program : (files : Option Files) (name : List ℕ) (unit : Whole) → (compiling files name).gives unit → (bytes : List ℕ) × (length bytes ≤ FILE_BYTES) × programs.IsProgram bytes unit
+unfolding in_row
+compiled_program files name unit (bytes, read, made) = (bytes, read.0, made)
 
 module _ (laws : PlansDecide) where
   decided_translating : (bytes : List ℕ) → IsDecided (translating bytes)
@@ -47,7 +55,7 @@ module _ (laws : PlansDecide) where
       let one = (decided_planning bytes until few).one in
       (λ other stops'. one.stop other refusal stops' stops, λ done gives. one.apart done refusal gives stops)
 
-module _ (laws : PlansDecide) (files : Files) where
+module _ (laws : PlansDecide) (images : ImagesDecide) (files : Files) where
   decided_compiling : (name : List ℕ) → IsDecided (compiling (Some files) name)
   decided_compiling name = decided_then _ _ (decided_reading files file.Program name) (λ bytes read. decided_translating laws bytes)
 
@@ -85,26 +93,75 @@ module _ (laws : PlansDecide) (files : Files) where
       decided_then _ _ (decided_pacing unit until) (λ done paced.
       decided_pure (Tried unit supply.nexts supply.sizes until))))
 
-  decided_serving : (command : Command) → IsDecided (serving (Some files) command)
-  decided_serving (Run program until inputs script) = decided_running program until inputs script
-  decided_serving (Check program until) = decided_checking program until
-  decided_serving (Draw program) = decided_drawing program
-  decided_serving (Make seed) = decided_pure (Made (made_text seed))
-  decided_serving (Trial seed until) = decided_trying seed until
+  decided_building : (name : List ℕ) → IsDecided (building (Some files) name)
+  decided_building name = decided_then _ _ (decided_compiling name) (λ unit made.
+      let (bytes, short, program) = compiled_program (Some files) name unit made in
+      decided_then _ _ (decided_imaging images bytes unit short program) (λ image imaged.
+      decided_pure (Built image)))
 
-  decided_answering : (words : List (List ℕ)) → IsDecided (answering words (Some files))
-  decided_answering words = decided_then _ _ (decided_asking words) (λ command asks. decided_serving command)
+  one_executing : (name : List ℕ) (until : ℕ) (inputs script : Option (List ℕ)) → IsOne (executing (Some files) name until inputs script)
+  one_executing name until inputs script = one_then _ _ (decided_reading files file.Image name).one (λ bytes read.
+      one_then _ _ (one_decoding images bytes) (λ it spelled.
+      one_then _ _ (one_verifying images it) (λ ways checked.
+      one_then _ _ (one_supplying_by images bytes it ways until spelled checked) (λ supply supplied.
+      one_then _ _ (decided_listing it.unit inputs).one (λ lists listed.
+      one_then _ _ (decided_scripting it.unit script).one (λ said scripted.
+      one_then _ _ (decided_pacing it.unit until).one (λ done paced.
+      one_pure (Executed it.unit it.code supply.nexts supply.sizes until lists said))))))))
+
+  decided_judging : (name : List ℕ) (until : ℕ) (trace : List ℕ) (script : Option (List ℕ)) → IsDecided (judging (Some files) name until trace script)
+  decided_judging name until trace script = decided_then _ _ (decided_compiling name) (λ unit made.
+      decided_then _ _ (decided_supplying laws unit until (compiled laws.of_text (Some files) name unit made)) (λ supply supplied.
+      decided_then _ _ (decided_reading files file.Trace trace) (λ text read.
+      decided_then _ _ (decided_scripting unit script) (λ said scripted.
+      decided_then _ _ (decided_pacing unit until) (λ done paced.
+      decided_then _ _ (decided_auditing (judged_by unit supply.nexts supply.sizes until said) text) (λ counts judged.
+      decided_pure (Audited counts.acts counts.looks)))))))
+
+  -- Each command comes to one end at most; and to some, but that an image's is shown by the call itself.
+  one_serving : (command : Command) → IsOne (serving (Some files) command)
+  one_serving (Run program until inputs script) = (decided_running program until inputs script).one
+  one_serving (Check program until) = (decided_checking program until).one
+  one_serving (Draw program) = (decided_drawing program).one
+  one_serving (Make seed) = one_pure (Made (made_text seed))
+  one_serving (Trial seed until) = (decided_trying seed until).one
+  one_serving (Build program) = (decided_building program).one
+  one_serving (Exec image until inputs script) = one_executing image until inputs script
+  one_serving (Audit program until trace script) = (decided_judging program until trace script).one
+
+  abbrev IsNoExec : Command → Type 0
+  IsNoExec command = (image : List ℕ) (until : ℕ) (inputs script : Option (List ℕ)) → command ≡ Exec image until inputs script → ⊥
+
+  some_serving : (command : Command) → IsNoExec command → IsSome (serving (Some files) command)
+  some_serving (Run program until inputs script) other = (decided_running program until inputs script).some
+  some_serving (Check program until) other = (decided_checking program until).some
+  some_serving (Draw program) other = (decided_drawing program).some
+  some_serving (Make seed) other = inl (Made (made_text seed), refl)
+  some_serving (Trial seed until) other = (decided_trying seed until).some
+  some_serving (Build program) other = (decided_building program).some
+  some_serving (Exec image until inputs script) other = absurd (other image until inputs script refl)
+  some_serving (Audit program until trace script) other = (decided_judging program until trace script).some
+
+  one_answering : (words : List (List ℕ)) → IsOne (answering words (Some files))
+  one_answering words = one_then _ _ (decided_asking words).one (λ command asks. one_serving command)
+
+  -- The words ask for no run of an image.
+  abbrev AskNoExec : List (List ℕ) → Type 0
+  AskNoExec words = (image : List ℕ) (until : ℕ) (inputs script : Option (List ℕ)) → Asks words (Exec image until inputs script) → ⊥
+
+  some_answering : (words : List (List ℕ)) → AskNoExec words → IsSome (answering words (Some files))
+  some_answering words other = some_then _ _ (decided_asking words).some (λ command asks. some_serving command (λ image until inputs script is. other image until inputs script (subst (Asks words) is asks)))
 
   -- Two answers are the same.
   pub Answers-same : (words : List (List ℕ)) (status other : ℕ) (text another : List ℕ) → Answers words (Some files) status text → Answers words (Some files) other another → (status ≡ other) × (text ≡ another)
-  Answers-same words status other text another (refused r p) (refused s q) = let same = (decided_answering words).one.stop r s p q in (ap status_of same, ap line_of same)
-  Answers-same words status other text another (refused r p) (served x q) = absurd ((decided_answering words).one.apart x r q p)
-  Answers-same words status other text another (served x p) (refused r q) = absurd ((decided_answering words).one.apart x r p q)
-  Answers-same words status other text another (served x p) (served y q) = (refl, ap text_of ((decided_answering words).one.gift x y p q))
+  Answers-same words status other text another (refused r p) (refused s q) = let same = (one_answering words).stop r s p q in (ap status_of same, ap line_of same)
+  Answers-same words status other text another (refused r p) (served x q) = absurd ((one_answering words).apart x r q p)
+  Answers-same words status other text another (served x p) (refused r q) = absurd ((one_answering words).apart x r p q)
+  Answers-same words status other text another (served x p) (served y q) = (refl, ap text_of ((one_answering words).gift x y p q))
 
   -- There is one.
-  pub Answers-some : (words : List (List ℕ)) → (status : ℕ) × (text : List ℕ) × Answers words (Some files) status text
-  Answers-some words = elim (decided_answering words).some [
+  pub Answers-some : (words : List (List ℕ)) → AskNoExec words → (status : ℕ) × (text : List ℕ) × Answers words (Some files) status text
+  Answers-some words other = elim (some_answering words other) [
     | inl done ↦ (0, text_of done.0, served done.0 done.1)
     | inr stop ↦ (status_of stop.0, line_of stop.0, refused stop.0 stop.1)
   ]

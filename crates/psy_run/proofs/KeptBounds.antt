@@ -52,7 +52,7 @@ module _ (s : System) (lawful : IsLawful s) (date agent : ℕ) (r : Action) wher
   by_next (Some n) before there = by_test n (n.start == date) refl before there
 
   -- an action that is due by a date started before it, since its deadline lies behind its start
-  started_before : Contains (history s (date + 1) agent) r → r.deadline ≤ date → Contains (history s date agent) r
+  pub started_before : Contains (history s (date + 1) agent) r → r.deadline ≤ date → Contains (history s date agent) r
   started_before there due =
       let regular = All-contains (IsRegular s agent) (history s (date + 1) agent) r (lawful.actions (date + 1) agent).each there in
       let next : date + 1 ≡ suc date = omega arith in

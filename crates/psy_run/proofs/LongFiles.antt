@@ -3,18 +3,21 @@ use Rattle.std.proofs.Common.{◌≡◌, sym, ap, subst, refl, ℕ, List, [], Op
 use Rattle.std.specs.Result.{IsErrAnd}
 use Rattle.psy_door.specs.Growth.{Grew}
 use Rattle.psy_log.specs.Forms.{read_line}
+use Rattle.psy_audit.specs.Traces.{Judged}
 use Rattle.psy_make.specs.Text.{made_text}
 use Rattle.psy_tree.specs.declared.unit.Unit.{Unit as Whole}
 use Rattle.psy_run.specs.declared.refusal.File.{File}
 use Rattle.psy_run.specs.declared.refusal.Refusal.{Refusal}
-use Rattle.psy_run.specs.declared.refusal.Refusal.TheVariants.{Words, TooLong, Cycles}
+use Rattle.psy_run.specs.declared.refusal.Refusal.TheVariants.{Words, TooLong, Cycles, Large}
 use Rattle.psy_run.specs.declared.refusal.Stop.{Stop}
 use Rattle.psy_run.specs.declared.refusal.Stop.TheVariants as stop
-use Rattle.psy_run.specs.Answer.{translating, supplying, trying}
+use Rattle.psy_base.specs.declared.ways.Ways.{Ways as WayLists}
+use Rattle.psy_image.specs.declared.image.Image.{Image as CodeImage}
+use Rattle.psy_run.specs.Answer.{translating, supplying, supplying_by, trying}
 use Rattle.psy_run.specs.Courses.{Course, in_row}
 use Rattle.psy_run.specs.Outcome.{Halts, halts_refused, halts_unread, halts_memory, Says, TookLimit, IsPastLimit}
 use Rattle.psy_run.specs.Refusals.{status_of, line_of, file_name}
-use Rattle.psy_run.specs.Steps.{graphing, stating, directing, pacing}
+use Rattle.psy_run.specs.Steps.{auditing, decoding, verifying, imaging, graphing, stating, directing, pacing}
 
 -- ---- courses that read no file
 
@@ -45,11 +48,29 @@ supplying_never_long unit until file stops = stops
 pub pacing_never_long : (unit : Whole) (until : ℕ) → IsNeverLong (pacing unit until)
 pacing_never_long unit until file stops = not_cycles file stops.0
 
+pub decoding_never_long : (bytes : List ℕ) → IsNeverLong (decoding bytes)
+decoding_never_long bytes file stops = stops
+
+pub verifying_never_long : (it : CodeImage) → IsNeverLong (verifying it)
+verifying_never_long it file stops = stops
+
+pub supplying_by_never_long : (unit : Whole) (ways : WayLists) (until : ℕ) → IsNeverLong (supplying_by unit ways until)
+supplying_by_never_long unit ways until file stops = stops
+
+not_large : (file : File) → TooLong file ≡ Large → ⊥
+not_large file e = absurd cc
+
+pub imaging_never_long : (unit : Whole) → IsNeverLong (imaging unit)
+imaging_never_long unit file stops = not_large file stops.0
+
 pub stating_never_long : (unit : Whole) (bytes : List ℕ) → IsNeverLong (stating unit bytes)
 stating_never_long unit bytes file stops = stops
 
 pub directing_never_long : (unit : Whole) (bytes : List ℕ) → IsNeverLong (directing unit bytes)
 directing_never_long unit bytes file stops = stops
+
+pub auditing_never_long : (j : Judged) (text : List ℕ) → IsNeverLong (auditing j text)
+auditing_never_long j text file stops = stops
 
 pub trying_never_long : (seed until : ℕ) → IsNeverLong (trying seed until)
 trying_never_long seed until =

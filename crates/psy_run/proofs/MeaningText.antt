@@ -8,7 +8,7 @@ use Rattle.psy_tree.specs.declared.unit.Unit.{Unit as Whole}
 use Rattle.psy_base.specs.declared.sizes.Sizes.{Sizes}
 use Rattle.psy_dates.specs.declared.plan.Plan.{Plan}
 use Rattle.psy_dates.specs.Beginnings.{beginning_of}
-use Rattle.psy_dates.specs.Plans.{opened_of}
+use Rattle.psy_dates.specs.Plans.{IsPlan, opened_of}
 use Rattle.psy_history.specs.Compiled.{AreInputs, IsCompiled, coded, stated}
 use Rattle.psy_history.specs.Scheduled.{turns_by}
 use Rattle.psy_history.specs.declared.told.Order.{Order}
@@ -25,8 +25,8 @@ use Rattle.psy_history.specs.Summary.{due_by, most_held, reach, slack}
 use Rattle.psy_run.specs.Bounds.{IsBounded, KeepsBounds}
 use Rattle.psy_run.specs.Outcome.{CanServe}
 use Rattle.psy_run.specs.Planned.{IsPlanned, IsStatedPlan}
-use Rattle.psy_run.specs.Runs.{ended}
-use Rattle.psy_run.specs.Services.{HasRun, Leaves, meaning_of, no_inputs, no_script, service_of}
+use Rattle.psy_kernel.specs.Runs.{ended}
+use Rattle.psy_run.specs.Services.{HasRun, Leaves, meaning_by, meaning_of, no_inputs, no_script, service_of}
 use Rattle.psy_run.specs.Services as service
 use Rattle.psy_run.specs.declared.served.Served.{Served}
 use Rattle.psy_run.specs.declared.served.Served.TheVariants as served
@@ -110,10 +110,9 @@ same_but_rounds unit nexts sizes until inputs script other stalls orders =
 -- ---- what is left
 
 -- The kernel of a run at its end
-has_run : (kernel : Progress) (inputs : List (List ℤ)) (script : Script) → IsPlanned kernel.plan → kernel.inputs ≡ inputs → kernel.script ≡ script → kernel.opening ≡ None
+has_run : (kernel : Progress) (inputs : List (List ℤ)) (script : Script) → kernel.inputs ≡ inputs → kernel.script ≡ script → kernel.opening ≡ None
     → HasRun kernel.plan.unit kernel.plan.nexts kernel.plan.sizes kernel.plan.until inputs script (ended kernel)
-has_run kernel inputs script plan are is whole = record {
-  plan = plan;
+has_run kernel inputs script are is whole = record {
   its_unit = refl;
   its_nexts = refl;
   its_sizes = refl;
@@ -129,14 +128,20 @@ has_run kernel inputs script plan are is whole = record {
 -- A run leaves its kernel, once it has ended
 pub ran_leaves : (kernel now : Progress) → CanServe (served.Ran kernel) → now ≡ ended kernel → Leaves (service_of (served.Ran kernel)) (Some now)
 ran_leaves kernel now (is, plan, are, script) over =
-    let ran = has_run kernel kernel.inputs kernel.script plan refl refl (ap (λ (p : Progress). p.opening) is) in
-    (now, refl, subst (HasRun kernel.plan.unit kernel.plan.nexts kernel.plan.sizes kernel.plan.until kernel.inputs kernel.script) (sym over) ran)
+    let ran = has_run kernel kernel.inputs kernel.script refl refl (ap (λ (p : Progress). p.opening) is) in
+    (now, refl, subst (λ (p : Progress). IsPlanned p.plan) (sym over) plan, subst (HasRun kernel.plan.unit kernel.plan.nexts kernel.plan.sizes kernel.plan.until kernel.inputs kernel.script) (sym over) ran)
+
+-- So does the run of the code of an image
+pub executed_leaves : (kernel now : Progress) → CanServe (served.Executed kernel) → now ≡ ended kernel → Leaves (service_of (served.Executed kernel)) (Some now)
+executed_leaves kernel now (is, plan, are, script) over =
+    let ran = has_run kernel kernel.inputs kernel.script refl refl (ap (λ (p : Progress). p.opening) is) in
+    (now, refl, subst (λ (p : Progress). IsPlan p.plan) (sym over) plan, ap (λ (p : Progress). p.plan.code) over, subst (HasRun kernel.plan.unit kernel.plan.nexts kernel.plan.sizes kernel.plan.until kernel.inputs kernel.script) (sym over) ran)
 
 -- And so does the run of a program that was made
 pub tried_leaves : (kernel now : Progress) → CanServe (served.Tried kernel) → now ≡ ended kernel → Leaves (service_of (served.Tried kernel)) (Some now)
 tried_leaves kernel now (is, plan) over =
-    let ran = has_run kernel (no_inputs kernel.plan.unit) no_script plan (ap (λ (p : Progress). p.inputs) is) (ap (λ (p : Progress). p.script) is) (ap (λ (p : Progress). p.opening) is) in
-    (now, refl, subst (HasRun kernel.plan.unit kernel.plan.nexts kernel.plan.sizes kernel.plan.until (no_inputs kernel.plan.unit) no_script) (sym over) ran)
+    let ran = has_run kernel (no_inputs kernel.plan.unit) no_script (ap (λ (p : Progress). p.inputs) is) (ap (λ (p : Progress). p.script) is) (ap (λ (p : Progress). p.opening) is) in
+    (now, refl, subst (λ (p : Progress). IsPlanned p.plan) (sym over) plan, subst (HasRun kernel.plan.unit kernel.plan.nexts kernel.plan.sizes kernel.plan.until (no_inputs kernel.plan.unit) no_script) (sym over) ran)
 
 -- What is served leaves something
 pub some_left : (done : Served) → CanServe done → (left : Option Progress) × Leaves (service_of done) left
@@ -144,6 +149,9 @@ some_left (served.Ran kernel) can = (Some (ended kernel), ran_leaves kernel (end
 some_left (served.Checked unit sizes lines extent) can = (None, refl)
 some_left (served.Drawn unit graphs costs) can = (None, refl)
 some_left (served.Made text) can = (None, refl)
+some_left (served.Built image) can = (None, refl)
+some_left (served.Audited acts looks) can = (None, refl)
+some_left (served.Executed kernel) can = (Some (ended kernel), executed_leaves kernel (ended kernel) can refl)
 some_left (served.Tried kernel) can = (Some (ended kernel), tried_leaves kernel (ended kernel) can refl)
 
 -- ---- the text of what is served
@@ -154,6 +162,11 @@ served_text law kernel (is, plan, are, script) =
     ap (λ opening. run_text (opened_of kernel.plan (beginning_of kernel.plan opening) kernel.inputs (stalls_of kernel.script)) (order kernel) kernel.plan.sizes kernel.plan.until) (ap (λ (p : Progress). p.opening) is)
     ∙ same_text kernel.plan.unit kernel.plan.code kernel.plan.nexts (stalls_of kernel.script) kernel.inputs
     (law kernel.plan.unit kernel.plan.code kernel.plan.nexts (stalls_of kernel.script) kernel.inputs plan.stated.compiled are) (order kernel) kernel.plan.sizes kernel.plan.until
+
+-- One of an image writes that of its code.
+pub executed_text : (kernel : Progress) → CanServe (served.Executed kernel) → run_text (system kernel) (order kernel) kernel.plan.sizes kernel.plan.until ≡ service.text_of (service_of (served.Executed kernel))
+executed_text kernel (is, plan, are, script) =
+    ap (λ opening. run_text (opened_of kernel.plan (beginning_of kernel.plan opening) kernel.inputs (stalls_of kernel.script)) (order kernel) kernel.plan.sizes kernel.plan.until) (ap (λ (p : Progress). p.opening) is)
 
 -- And so does one that writes its summary alone
 pub tried_text : Always AreAlike → (kernel : Progress) → CanServe (served.Tried kernel)
@@ -174,6 +187,11 @@ abbrev pub Keeps : Type 0
 Keeps = (plan : Plan) (inputs : List (List ℤ)) (script : Script) → IsStatedPlan plan → AreInputs plan.unit inputs → IsScript plan.unit script
     → KeepsBounds (meaning_of plan.unit plan.nexts inputs script) (order_of plan.unit script) plan.sizes plan.until
 
+-- So do runs of code by plans that fit.
+abbrev pub KeepsByCode : Type 0
+KeepsByCode = (plan : Plan) (inputs : List (List ℤ)) (script : Script) → IsPlan plan → AreInputs plan.unit inputs → IsScript plan.unit script
+    → KeepsBounds (meaning_by plan.unit plan.code plan.nexts inputs script) (order_of plan.unit script) plan.sizes plan.until
+
 -- A script with nothing in it
 pub is_no_script : (unit : Whole) → IsScript unit no_script
 is_no_script unit = record {
@@ -186,9 +204,12 @@ is_no_script unit = record {
 }
 
 -- What is served keeps its bounds
-pub is_bounded : Keeps → (done : Served) → CanServe done → IsBounded (service_of done)
-is_bounded keeps (served.Ran kernel) (is, plan, are, script) = keeps kernel.plan kernel.inputs kernel.script plan.stated are script
-is_bounded keeps (served.Checked unit sizes lines extent) can = tt
-is_bounded keeps (served.Drawn unit graphs costs) can = tt
-is_bounded keeps (served.Made text) can = tt
-is_bounded keeps (served.Tried kernel) (is, plan) = keeps kernel.plan (no_inputs kernel.plan.unit) no_script plan.stated (are_no_inputs kernel.plan.unit) (is_no_script kernel.plan.unit)
+pub is_bounded : Keeps → KeepsByCode → (done : Served) → CanServe done → IsBounded (service_of done)
+is_bounded keeps by_code (served.Ran kernel) (is, plan, are, script) = keeps kernel.plan kernel.inputs kernel.script plan.stated are script
+is_bounded keeps by_code (served.Checked unit sizes lines extent) can = tt
+is_bounded keeps by_code (served.Drawn unit graphs costs) can = tt
+is_bounded keeps by_code (served.Made text) can = tt
+is_bounded keeps by_code (served.Built image) can = tt
+is_bounded keeps by_code (served.Audited acts looks) can = tt
+is_bounded keeps by_code (served.Executed kernel) (is, plan, are, script) = by_code kernel.plan kernel.inputs kernel.script plan are script
+is_bounded keeps by_code (served.Tried kernel) (is, plan) = keeps kernel.plan (no_inputs kernel.plan.unit) no_script plan.stated (are_no_inputs kernel.plan.unit) (is_no_script kernel.plan.unit)

@@ -14,19 +14,19 @@ use Rattle.psy_tree.specs.declared.unit.Unit.{Unit as Whole}
 use Rattle.psy_plan.specs.declared.refusal.Refusal.{Refusal as Cause}
 use Rattle.psy_plan.specs.declared.refusal.Refusal.TheVariants.{Lexical, Syntax, Deep, Rule, Many, Nodes, Edges, Ring, Queue, Cells, Infeasible}
 use Rattle.psy_run.specs.declared.refusal.File.{File}
-use Rattle.psy_run.specs.declared.refusal.File.TheVariants.{Program, Inputs, Script}
+use Rattle.psy_run.specs.declared.refusal.File.TheVariants.{Program, Image as ImageFile, Inputs, Script, Trace as TraceFile}
 use Rattle.psy_run.specs.declared.refusal.Refusal.{Refusal}
-use Rattle.psy_run.specs.declared.refusal.Refusal.TheVariants.{Words, TooLong, Unplanned, Line, Lines, Cycles}
+use Rattle.psy_run.specs.declared.refusal.Refusal.TheVariants.{Words, TooLong, Unplanned, Line, Lines, Cycles, Image, Code, Large, Trace}
 use Rattle.psy_run.specs.declared.refusal.Stop.{Stop}
 use Rattle.psy_run.specs.declared.refusal.Stop.TheVariants as stop
-use Rattle.psy_run.specs.Answer.{Answers, refused, served, translating, compiling, supplying, listing, scripting, serving, answering}
-use Rattle.psy_run.specs.Asked.{Command, Asks, AskNothing, Run, Check, Graph, Make, Trial}
+use Rattle.psy_run.specs.Answer.{Answers, refused, served, translating, compiling, supplying, supplying_by, listing, scripting, serving, answering}
+use Rattle.psy_run.specs.Asked.{Command, Asks, AskNothing, Run, Check, Graph, Make, Trial, Build, Exec, Audit}
 use Rattle.psy_run.specs.Bounds.{IsBounded}
 use Rattle.psy_run.specs.Courses.{Course, in_row}
 use Rattle.psy_run.specs.Outcome.{Halts, halts_refused, halts_unread, halts_memory, Seen, coming, IsUnread, MayAnswer, may_refuse, may_miss, may_serve, Ends, ends_memory, ends_said, ends_cut, Says}
 use Rattle.psy_run.specs.Refusals.{status_of, line_of, file_name}
-use Rattle.psy_run.specs.Services.{Service, Ran, Checked, Drawn, Made, Tried, HasRun, Leaves, no_inputs, no_script, text_of}
-use Rattle.psy_run.specs.Steps.{reading, graphing, costing, pacing}
+use Rattle.psy_run.specs.Services.{Service, Ran, Checked, Drawn, Made, Tried, Built, Executed, Audited, HasRun, Leaves, no_inputs, no_script, text_of}
+use Rattle.psy_run.specs.Steps.{reading, auditing, judged_by, decoding, verifying, imaging, graphing, costing, pacing}
 
 -- ---- the statuses of refusals
 
@@ -67,6 +67,10 @@ is_status (Unplanned cause) = planned_status cause
 is_status (Line file kind line) = six (Line file kind line)
 is_status Lines = seven Lines
 is_status Cycles = seven Cycles
+is_status (Image place) = one (Image place)
+is_status (Code number place) = one (Code number place)
+is_status Large = seven Large
+is_status (Trace number line) = six (Trace number line)
 
 not_by : (refusal : Refusal) (status answer : ℕ) → IsStatus refusal status → answer ≢ 2 → (answer ≡ 0) ⊎ ((answer ≡ 3) ⊎ ((answer ≡ 4) ⊎ (answer ≡ 8))) → status ≢ answer
 not_by _ _ answer of_words two which e = two (sym e)
@@ -208,6 +212,23 @@ serving_never files (Make seed) = λ stops. stops
 serving_never files (Trial seed until) =
     never_then (translating (made_text seed)) _ (translating_never (made_text seed))
     (λ unit. never_then (supplying unit until) _ (supplying_never unit until) (λ supply. never_then (pacing unit until) _ (pacing_never unit until) (λ done stops. stops)))
+serving_never files (Build name) =
+    never_then (compiling files name) _ (compiling_never files name)
+    (λ unit. never_then (imaging unit) _ (λ stops. apart Large (λ e. absurd (omega arith)) stops.0) (λ image stops. stops))
+serving_never files (Exec name until inputs script) =
+    never_then (reading files ImageFile name) _ (λ stops. apart (TooLong ImageFile) (λ e. absurd (omega arith)) stops.0)
+    (λ bytes. never_then (decoding bytes) _ (λ stops. stops)
+    (λ it. never_then (verifying it) _ (λ stops. stops)
+    (λ ways. never_then (supplying_by it.unit ways until) _ (λ stops. stops)
+    (λ supply. never_then (listing files it.unit inputs) _ (listing_never files it.unit inputs)
+    (λ lists. never_then (scripting files it.unit script) _ (scripting_never files it.unit script) (λ said. never_then (pacing it.unit until) _ (pacing_never it.unit until) (λ done stops. stops)))))))
+serving_never files (Audit name until trace script) =
+    never_then (compiling files name) _ (compiling_never files name)
+    (λ unit. never_then (supplying unit until) _ (supplying_never unit until)
+    (λ supply. never_then (reading files TraceFile trace) _ (λ stops. apart (TooLong TraceFile) (λ e. absurd (omega arith)) stops.0)
+    (λ text. never_then (scripting files unit script) _ (scripting_never files unit script)
+    (λ said. never_then (pacing unit until) _ (pacing_never unit until)
+    (λ done. never_then (auditing (judged_by unit supply.nexts supply.sizes until said) text) _ (λ stops. stops) (λ counts stops. stops))))))
 
 nothing_asked : (words : List (List ℕ)) (files : Option Files) → (answering words files).stops Words → AskNothing words
 unfolding in_row
@@ -266,11 +287,14 @@ over_at unit nexts sizes until inputs script p ran = by (p.dates == p.plan.until
     by false e = let dates = ran.dates in let last = ran.its_until in grind (arith, nat_tests)
 
 over_of : (done : Service) (left : Option Progress) → Leaves done left → IfSome left (λ kernel. stage_of kernel ≡ Over)
-over_of (Ran unit nexts sizes until inputs script) left (p, is, ran) = subst (λ l. IfSome l (λ kernel. stage_of kernel ≡ Over)) (sym is) (over_at unit nexts sizes until inputs script p ran)
-over_of (Tried unit nexts sizes until) left (p, is, ran) = subst (λ l. IfSome l (λ kernel. stage_of kernel ≡ Over)) (sym is) (over_at unit nexts sizes until (no_inputs unit) no_script p ran)
+over_of (Ran unit nexts sizes until inputs script) left (p, is, plan, ran) = subst (λ l. IfSome l (λ kernel. stage_of kernel ≡ Over)) (sym is) (over_at unit nexts sizes until inputs script p ran)
+over_of (Tried unit nexts sizes until) left (p, is, plan, ran) = subst (λ l. IfSome l (λ kernel. stage_of kernel ≡ Over)) (sym is) (over_at unit nexts sizes until (no_inputs unit) no_script p ran)
 over_of (Checked unit sizes lines extent) left is = subst (λ l. IfSome l (λ kernel. stage_of kernel ≡ Over)) (sym is) tt
 over_of (Drawn unit graphs costs) left is = subst (λ l. IfSome l (λ kernel. stage_of kernel ≡ Over)) (sym is) tt
 over_of (Made text) left is = subst (λ l. IfSome l (λ kernel. stage_of kernel ≡ Over)) (sym is) tt
+over_of (Built image) left is = subst (λ l. IfSome l (λ kernel. stage_of kernel ≡ Over)) (sym is) tt
+over_of (Audited acts looks) left is = subst (λ l. IfSome l (λ kernel. stage_of kernel ≡ Over)) (sym is) tt
+over_of (Executed unit code nexts sizes until inputs script) left (p, is, plan, coded, ran) = subst (λ l. IfSome l (λ kernel. stage_of kernel ≡ Over)) (sym is) (over_at unit nexts sizes until inputs script p ran)
 
 pub ends_over : (seen : Seen) (old now : Option (List ℕ)) (before after answer : ℕ) (left : Option Progress) → Ends seen old now before after answer left → IfSome left (λ kernel. stage_of kernel ≡ Over)
 ends_over seen old now before after _ _ (ends_memory command asks grew) = tt

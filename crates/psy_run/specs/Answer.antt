@@ -1,5 +1,6 @@
 -- The defined answer: the status and the text that belong to the words and to the files that are told.
 use Rattle.std.specs.Prelude.{ℕ, List, Option, None, Some, ℤ}
+use Rattle.psy_base.specs.declared.ways.Ways.{Ways as WayLists}
 use Rattle.psy_door.specs.Files.{Files}
 use Rattle.psy_tree.specs.declared.unit.Unit.{Unit as Whole}
 use Rattle.psy_history.specs.declared.told.Script.{Script}
@@ -9,11 +10,11 @@ use Rattle.psy_plan.specs.Supplies as supplies
 use Rattle.psy_plan.specs.Supplies.{Supply}
 use Rattle.psy_run.specs.declared.refusal.File.TheVariants as file
 use Rattle.psy_run.specs.declared.refusal.Refusal.{Refusal}
-use Rattle.psy_run.specs.Asked.{Command, Run, Check, Graph as Draw, Make, Trial}
+use Rattle.psy_run.specs.Asked.{Command, Run, Check, Graph as Draw, Make, Trial, Build, Exec, Audit}
 use Rattle.psy_run.specs.Courses.{Course, planned, pure, ◌>>=◌}
 use Rattle.psy_run.specs.Refusals.{status_of, line_of}
-use Rattle.psy_run.specs.Services.{Service, Ran, Checked, Drawn, Made, Tried, no_inputs, no_script, text_of}
-use Rattle.psy_run.specs.Steps.{asking, reading, graphing, costing, pacing, stating, directing}
+use Rattle.psy_run.specs.Services.{Service, Ran, Checked, Drawn, Made, Tried, Built, Executed, Audited, no_inputs, no_script, text_of}
+use Rattle.psy_run.specs.Steps.{asking, reading, auditing, judged_by, decoding, verifying, imaging, graphing, costing, pacing, stating, directing}
 
 -- ---- the commands
 
@@ -30,6 +31,10 @@ compiling files name = do
 -- What a program needs that its processors can run, where each of them can supply what its agents may demand up to this date
 abbrev pub supplying : Whole → ℕ → Course Supply
 supplying unit until = planned (supplies.supplying unit until)
+
+-- The same for an image, by the ways of its code
+abbrev pub supplying_by : Whole → WayLists → ℕ → Course Supply
+supplying_by unit ways until = planned (supplies.supplying_by unit ways until)
 
 -- By variable, the lists that the inputs file states; without a file there is none.
 abbrev pub listing : Option Files → Whole → Option (List ℕ) → Course (List (List ℤ))
@@ -82,6 +87,36 @@ trying seed until = do
   _ ← pacing unit until
   pure (Tried unit supply.nexts supply.sizes until)
 
+-- `build PROG`
+abbrev pub building : Option Files → List ℕ → Course Service
+building files name = do
+  unit ← compiling files name
+  image ← imaging unit
+  pure (Built image)
+
+-- `exec IMAGE UNTIL [INPUTS [SCRIPT]]`
+abbrev pub executing : Option Files → List ℕ → ℕ → Option (List ℕ) → Option (List ℕ) → Course Service
+executing files name until inputs script = do
+  bytes ← reading files file.Image name
+  it ← decoding bytes
+  ways ← verifying it
+  supply ← supplying_by it.unit ways until
+  lists ← listing files it.unit inputs
+  said ← scripting files it.unit script
+  _ ← pacing it.unit until
+  pure (Executed it.unit it.code supply.nexts supply.sizes until lists said)
+
+-- `audit PROG UNTIL TRACE [SCRIPT]`
+abbrev pub judging : Option Files → List ℕ → ℕ → List ℕ → Option (List ℕ) → Course Service
+judging files name until trace script = do
+  unit ← compiling files name
+  supply ← supplying unit until
+  text ← reading files file.Trace trace
+  said ← scripting files unit script
+  _ ← pacing unit until
+  counts ← auditing (judged_by unit supply.nexts supply.sizes until said) text
+  pure (Audited counts.acts counts.looks)
+
 -- A run of the program of a text, without inputs and script, however many cycles it has
 abbrev pub planning : List ℕ → ℕ → Course Service
 planning bytes until = do
@@ -96,6 +131,9 @@ serving files (Check program until) = checking files program until
 serving files (Draw program) = drawing files program
 serving files (Make seed) = making seed
 serving files (Trial seed until) = trying seed until
+serving files (Build program) = building files program
+serving files (Exec image until inputs script) = executing files image until inputs script
+serving files (Audit program until trace script) = judging files program until trace script
 
 -- The words: what they ask for, then that
 abbrev pub answering : List (List ℕ) → Option Files → Course Service

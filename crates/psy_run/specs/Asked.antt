@@ -22,8 +22,12 @@ pub data Command : Type 0 where
   Graph : (program : List ℕ) → Command
   Make : (seed : ℕ) → Command
   Trial : (seed until : ℕ) → Command
+  Build : (program : List ℕ) → Command
+  Exec : (image : List ℕ) (until : ℕ) (inputs script : Option (List ℕ)) → Command
+  Audit : (program : List ℕ) (until : ℕ) (trace : List ℕ) (script : Option (List ℕ)) → Command
 
--- The words ask for a command: `run PROG UNTIL [INPUTS [SCRIPT]]`, `check PROG UNTIL`, `graph PROG`, `make SEED` or `trial SEED UNTIL`
+-- The words ask for a command: `run PROG UNTIL [INPUTS [SCRIPT]]`, `check PROG UNTIL`, `graph PROG`, `make SEED`, `trial SEED UNTIL`, `build PROG`,
+-- `exec IMAGE UNTIL [INPUTS [SCRIPT]]` or `audit PROG UNTIL TRACE [SCRIPT]`
 pub data Asks (words : List (List ℕ)) : Command → Type 0 where
   asks_run : (program date : List ℕ) (until : ℕ) → words ≡ codes "run" ∷ program ∷ date ∷ [] → IsDate date until → Asks words (Run program until None None)
   asks_run_with_inputs : (program date inputs : List ℕ) (until : ℕ) → words ≡ codes "run" ∷ program ∷ date ∷ inputs ∷ [] → IsDate date until
@@ -35,6 +39,16 @@ pub data Asks (words : List (List ℕ)) : Command → Type 0 where
   asks_make : (number : List ℕ) (seed : ℕ) → words ≡ codes "make" ∷ number ∷ [] → IsSeed number seed → Asks words (Make seed)
   asks_trial : (number date : List ℕ) (seed until : ℕ) → words ≡ codes "trial" ∷ number ∷ date ∷ [] → IsSeed number seed → IsDate date until
       → Asks words (Trial seed until)
+  asks_build : (program : List ℕ) → words ≡ codes "build" ∷ program ∷ [] → Asks words (Build program)
+  asks_exec : (image date : List ℕ) (until : ℕ) → words ≡ codes "exec" ∷ image ∷ date ∷ [] → IsDate date until → Asks words (Exec image until None None)
+  asks_exec_with_inputs : (image date inputs : List ℕ) (until : ℕ) → words ≡ codes "exec" ∷ image ∷ date ∷ inputs ∷ [] → IsDate date until
+      → Asks words (Exec image until (Some inputs) None)
+  asks_exec_with_script : (image date inputs script : List ℕ) (until : ℕ) → words ≡ codes "exec" ∷ image ∷ date ∷ inputs ∷ script ∷ []
+      → IsDate date until → Asks words (Exec image until (Some inputs) (Some script))
+  asks_audit : (program date trace : List ℕ) (until : ℕ) → words ≡ codes "audit" ∷ program ∷ date ∷ trace ∷ [] → IsDate date until
+      → Asks words (Audit program until trace None)
+  asks_audit_with_script : (program date trace script : List ℕ) (until : ℕ) → words ≡ codes "audit" ∷ program ∷ date ∷ trace ∷ script ∷ []
+      → IsDate date until → Asks words (Audit program until trace (Some script))
 
 -- The words are of no listed form
 abbrev pub AskNothing : List (List ℕ) → Type 0
@@ -47,3 +61,6 @@ asked_by (read.Check program until) = Check program.now until
 asked_by (read.Graph program) = Graph program.now
 asked_by (read.Make seed) = Make seed
 asked_by (read.Trial seed until) = Trial seed until
+asked_by (read.Build program) = Build program.now
+asked_by (read.Exec image until inputs script) = Exec image.now until (option_copied inputs) (option_copied script)
+asked_by (read.Audit program until trace script) = Audit program.now until trace.now (option_copied script)

@@ -9,7 +9,6 @@ pub mod Outcome
 pub mod OwnLines
 pub mod Planned
 pub mod Refusals
-pub mod Runs
 pub mod Services
 pub mod Steps
 pub mod Supplies

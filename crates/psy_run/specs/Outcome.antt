@@ -2,6 +2,7 @@
 use Rattle.std.specs.Prelude.{◌≡◌, ◌≢◌, ◌⊎◌, ℕ, ◌+◌, List, [], Option, None, ⊤}
 use Rattle.std.specs.List.{All}
 use Rattle.psy_base.specs.declared.limits.TheConstants.{FILE_BYTES}
+use Rattle.psy_dates.specs.Plans.{IsPlan}
 use Rattle.psy_door.specs.Faults.{Rose}
 use Rattle.psy_door.specs.Files.{Files}
 use Rattle.psy_door.specs.Growth.{Grew, GrewByFront}
@@ -92,4 +93,8 @@ CanServe (served.Ran kernel) = (kernel ≡ booted kernel.plan kernel.inputs kern
 CanServe (served.Checked unit sizes lines extent) = IsBare unit
 CanServe (served.Drawn unit graphs costs) = IsBare unit × All IsSmall graphs
 CanServe (served.Made text) = ⊤
+CanServe (served.Built image) = ⊤
+CanServe (served.Audited acts looks) = ⊤
+CanServe (served.Executed kernel) = (kernel ≡ booted kernel.plan kernel.inputs kernel.script) × IsPlan kernel.plan × AreInputs kernel.plan.unit kernel.inputs
+    × IsScript kernel.plan.unit kernel.script
 CanServe (served.Tried kernel) = (kernel ≡ booted kernel.plan (no_inputs kernel.plan.unit) no_script) × IsPlanned kernel.plan

@@ -1,7 +1,7 @@
 -- The status and the line of each refusal.
 use Rattle.std.specs.Prelude.{ℕ, List, codes, Some}
 use Rattle.psy_base.specs.declared.limits.TheConstants as limit
-use Rattle.psy_log.specs.Forms.{words_line, limit_line, refused_line}
+use Rattle.psy_log.specs.Forms.{words_line, limit_line, refused_line, refused_image_line}
 use Rattle.psy_plan.specs.declared.refusal.Refusal.{Refusal as Cause}
 use Rattle.psy_plan.specs.declared.refusal.Refusal.TheVariants.{Lexical, Syntax, Deep, Rule, Many, Nodes, Edges, Ring, Queue, Cells, Infeasible}
 use Rattle.psy_plan.specs.declared.refusal.Stop.{Stop as PlanStop}
@@ -11,9 +11,9 @@ use Rattle.psy_script.specs.declared.fault.TextFault.{TextFault}
 use Rattle.psy_script.specs.declared.fault.TextFault.TheVariants as text
 use Rattle.psy_script.specs.Faults.{line_number}
 use Rattle.psy_run.specs.declared.refusal.File.{File}
-use Rattle.psy_run.specs.declared.refusal.File.TheVariants.{Program, Inputs, Script}
+use Rattle.psy_run.specs.declared.refusal.File.TheVariants.{Program, Image as ImageFile, Inputs, Script, Trace as TraceFile}
 use Rattle.psy_run.specs.declared.refusal.Refusal.{Refusal}
-use Rattle.psy_run.specs.declared.refusal.Refusal.TheVariants.{Words, TooLong, Unplanned, Line, Lines, Cycles}
+use Rattle.psy_run.specs.declared.refusal.Refusal.TheVariants.{Words, TooLong, Unplanned, Line, Lines, Cycles, Image, Code, Large, Trace}
 use Rattle.psy_run.specs.declared.refusal.Stop.{Stop}
 use Rattle.psy_run.specs.declared.refusal.Stop.TheVariants as stop
 
@@ -39,12 +39,18 @@ status_of (Unplanned cause) = status_of_plan cause
 status_of (Line file kind line) = 6
 status_of Lines = 7
 status_of Cycles = 7
+status_of (Image place) = 1
+status_of (Code number place) = 1
+status_of Large = 7
+status_of (Trace number line) = 6
 
 -- What a file is called
 abbrev pub file_name : File → List ℕ
 file_name Program = codes "program"
+file_name ImageFile = codes "image"
 file_name Inputs = codes "inputs"
 file_name Script = codes "script"
+file_name TraceFile = codes "trace"
 
 -- The line of each refusal
 abbrev pub line_of : Refusal → List ℕ
@@ -54,6 +60,10 @@ line_of (Unplanned cause) = line_of_plan cause
 line_of (Line file kind line) = refused_line (file_name file) (line_number kind) (Some line)
 line_of Lines = limit_line (codes "lines") limit.LINES
 line_of Cycles = limit_line (codes "run") limit.RUN
+line_of (Image place) = refused_image_line place
+line_of (Code number place) = refused_line (codes "verify") number (Some place)
+line_of (Trace number line) = refused_line (codes "trace") number (Some line)
+line_of Large = limit_line (codes "image") limit.FILE_BYTES
 
 -- Why a command stops at the text of a file
 abbrev pub stop_by : File → TextFault → Stop

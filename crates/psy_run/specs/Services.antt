@@ -4,12 +4,15 @@ use Rattle.psy_dates.specs.declared.plan.Plan.{Plan}
 use Rattle.psy_tree.specs.declared.unit.Unit.{Unit as Whole}
 use Rattle.psy_history.specs.Actions.{System}
 use Rattle.psy_graph.specs.declared.graph.Graph.{Graph}
-use Rattle.psy_history.specs.Compiled.{stated}
+use Rattle.psy_code.specs.declared.code.Code.{Code}
+use Rattle.psy_dates.specs.Plans.{IsPlan}
+use Rattle.psy_history.specs.Compiled.{coded, stated}
 use Rattle.psy_base.specs.declared.sizes.Sizes.{Sizes}
 use Rattle.psy_history.specs.declared.told.Script.{Script}
 use Rattle.psy_kernel.specs.Progress.{Progress, lines_told}
 use Rattle.psy_history.specs.Scripts.{order_of, stalls_of}
 use Rattle.psy_kernel.specs.Texts.{run_text, summary_of, text_of as lines_text}
+use Rattle.psy_log.specs.Forms.{legal_line}
 use Rattle.psy_rate.specs.declared.line.Rate.{Rate}
 use Rattle.psy_plan.specs.declared.extent.Extent.{Extent}
 use Rattle.psy_run.specs.declared.served.Served.{Served}
@@ -18,13 +21,17 @@ use Rattle.psy_run.specs.Planned.{IsPlanned}
 use Rattle.psy_run.specs.Texts.{check_text, graph_text}
 
 -- What a command does: it runs a program, whose points may be followed by these and whose buffers have these sizes, up to a date, with
--- inputs and a script; it checks one, with these lines above its demand; it draws its graphs; it makes the text of one; or it runs one that was made.
+-- inputs and a script; it checks one, with these lines above its demand; it draws its graphs; it makes the text of one; it runs one that was made; it
+-- builds the image of one; it runs the code of an image; or it finds a trace to be legal, with so many actions and looks.
 pub data Service : Type 0 where
   Ran : (unit : Whole) (nexts : List (List (List ℕ))) (sizes : Sizes) (until : ℕ) (inputs : List (List ℤ)) (script : Script) → Service
   Checked : (unit : Whole) (sizes : Sizes) (lines : List Rate) (extent : Extent) → Service
   Drawn : (unit : Whole) (graphs : List Graph) (costs : List (List ℕ)) → Service
   Made : (text : List ℕ) → Service
   Tried : (unit : Whole) (nexts : List (List (List ℕ))) (sizes : Sizes) (until : ℕ) → Service
+  Built : (image : List ℕ) → Service
+  Audited : (acts looks : ℕ) → Service
+  Executed : (unit : Whole) (code : Code) (nexts : List (List (List ℕ))) (sizes : Sizes) (until : ℕ) (inputs : List (List ℤ)) (script : Script) → Service
 
 -- ---- the meaning of a run
 
@@ -40,6 +47,10 @@ no_script = record { stalls = []; orders = []; rounds = [] }
 abbrev pub meaning_of : Whole → List (List (List ℕ)) → List (List ℤ) → Script → System
 meaning_of unit nexts inputs script = stated unit nexts (stalls_of script) inputs
 
+-- The dated meaning of code, with these inputs and this script
+abbrev pub meaning_by : Whole → Code → List (List (List ℕ)) → List (List ℤ) → Script → System
+meaning_by unit code nexts inputs script = coded unit code nexts (stalls_of script) inputs
+
 -- ---- texts
 
 -- The text of what is done. That of a run is the one of the dated meaning, which knows no code and no schedule but for the summary.
@@ -48,6 +59,9 @@ text_of (Ran unit nexts sizes until inputs script) = run_text (meaning_of unit n
 text_of (Checked unit sizes lines extent) = check_text unit sizes lines extent
 text_of (Drawn unit graphs costs) = graph_text unit.agents graphs costs
 text_of (Made text) = text
+text_of (Built image) = image
+text_of (Audited acts looks) = legal_line acts looks
+text_of (Executed unit code nexts sizes until inputs script) = run_text (meaning_by unit code nexts inputs script) (order_of unit script) sizes until
 text_of (Tried unit nexts sizes until) = lines_text (summary_of (meaning_of unit nexts (no_inputs unit) no_script) (order_of unit no_script) sizes until)
 
 -- ---- what is left
@@ -55,7 +69,6 @@ text_of (Tried unit nexts sizes until) = lines_text (summary_of (meaning_of unit
 -- A kernel that ran the program from date 0 to its last one: it is over, and gave all its lines.
 pub record HasRun (unit : Whole) (nexts : List (List (List ℕ))) (sizes : Sizes) (until : ℕ) (inputs : List (List ℤ)) (script : Script)
     (p : Progress) : Type 0 where
-  pub plan : IsPlanned p.plan
   pub its_unit : p.plan.unit ≡ unit
   pub its_nexts : p.plan.nexts ≡ nexts
   pub its_sizes : p.plan.sizes ≡ sizes
@@ -67,10 +80,14 @@ pub record HasRun (unit : Whole) (nexts : List (List (List ℕ))) (sizes : Sizes
   pub cycles : p.cycles ≡ until * unit.quantum
   pub given : p.given ≡ length (lines_told p)
 
--- The kernel that is left: that of a run, and none of another command
+-- The kernel that is left: that of a run, by a plan of its program's statements or of an image's code, and none of another command
 abbrev pub Leaves : Service → Option Progress → Type 0
-Leaves (Ran unit nexts sizes until inputs script) left = (p : Progress) × (left ≡ Some p) × HasRun unit nexts sizes until inputs script p
-Leaves (Tried unit nexts sizes until) left = (p : Progress) × (left ≡ Some p) × HasRun unit nexts sizes until (no_inputs unit) no_script p
+Leaves (Ran unit nexts sizes until inputs script) left =
+    (p : Progress) × (left ≡ Some p) × IsPlanned p.plan × HasRun unit nexts sizes until inputs script p
+Leaves (Tried unit nexts sizes until) left =
+    (p : Progress) × (left ≡ Some p) × IsPlanned p.plan × HasRun unit nexts sizes until (no_inputs unit) no_script p
+Leaves (Executed unit code nexts sizes until inputs script) left =
+    (p : Progress) × (left ≡ Some p) × IsPlan p.plan × (p.plan.code ≡ code) × HasRun unit nexts sizes until inputs script p
 Leaves service left = left ≡ None
 
 -- ---- what is served
@@ -82,6 +99,10 @@ service_of (served.Checked unit sizes lines extent) = Checked unit sizes lines e
 service_of (served.Drawn unit graphs costs) = Drawn unit graphs costs
 service_of (served.Made text) = Made text.items
 service_of (served.Tried kernel) = Tried kernel.plan.unit kernel.plan.nexts kernel.plan.sizes kernel.plan.until
+service_of (served.Built image) = Built image.items
+service_of (served.Audited acts looks) = Audited acts looks
+service_of (served.Executed kernel) =
+    Executed kernel.plan.unit kernel.plan.code kernel.plan.nexts kernel.plan.sizes kernel.plan.until kernel.inputs kernel.script
 
 -- The run of a plan without inputs and script
 abbrev pub planned_run : Plan → Service

@@ -1,18 +1,31 @@
 -- The steps that judge a command, each with its refusal. Those from a text to what a run needs are the plan's.
-use Rattle.std.specs.Prelude.{◌≡◌, ℕ, ◌*◌, ◌<◌, ◌≤◌, List, length, Option, ℤ}
+use Rattle.std.specs.Prelude.{◌≡◌, ℕ, ◌*◌, ◌<◌, ◌≤◌, List, length, Option, Some, ℤ}
+use Rattle.psy_audit.specs.Answers.{fault_at}
+use Rattle.psy_audit.specs.Faults.{IsLegal, first_fault}
+use Rattle.psy_audit.specs.Texts.{lines_in}
+use Rattle.psy_audit.specs.Traces.{Judged, acts as acts_told, looks as looks_told}
 use Rattle.psy_base.specs.declared.limits.TheConstants.{FILE_BYTES, RUN}
+use Rattle.psy_base.specs.declared.sizes.Sizes.{Sizes}
+use Rattle.psy_base.specs.declared.ways.Ways.{Ways as WayLists}
 use Rattle.psy_door.specs.Files.{Files, WhereTold, bytes_under}
+use Rattle.psy_flow.specs.Verified.{IsLeastFault}
+use Rattle.psy_gen.specs.Emission.{code_of}
 use Rattle.psy_graph.specs.declared.graph.Graph.{Graph}
 use Rattle.psy_history.specs.declared.told.Script.{Script as Said}
+use Rattle.psy_history.specs.Scripts.{order_of}
+use Rattle.psy_image.specs.Answers.{IsBadAt, image_of}
+use Rattle.psy_image.specs.Images.{spells_image}
+use Rattle.psy_image.specs.declared.image.Image.{Image as CodeImage}
 use Rattle.psy_plan.specs.Steps as plan
 use Rattle.psy_script.specs.Faults.{HasManyLines, IsFirst}
 use Rattle.psy_script.specs.Inputs.{AreListsOf, inputs_judge}
 use Rattle.psy_script.specs.Script.{IsScriptOf, script_judge}
 use Rattle.psy_tree.specs.declared.unit.Unit.{Unit as Whole}
+use Rattle.psy_verify.specs.Fits.{IsChecked}
 use Rattle.psy_run.specs.declared.refusal.File.{File}
 use Rattle.psy_run.specs.declared.refusal.File.TheVariants.{Inputs, Script}
 use Rattle.psy_run.specs.declared.refusal.Refusal.{Refusal}
-use Rattle.psy_run.specs.declared.refusal.Refusal.TheVariants.{Words, TooLong, Line, Lines, Cycles}
+use Rattle.psy_run.specs.declared.refusal.Refusal.TheVariants.{Words, TooLong, Line, Lines, Cycles, Image, Code, Large, Trace}
 use Rattle.psy_run.specs.Asked.{Command, Asks, AskNothing}
 use Rattle.psy_run.specs.Courses.{Course, planned, step, unless}
 
@@ -27,6 +40,50 @@ reading files file name = record {
   stops = λ refusal. (refusal ≡ TooLong file) × WhereTold files (λ held. FILE_BYTES < length (bytes_under held name));
   reads = λ asked under. (asked ≡ file) × (under ≡ name);
 }
+
+-- The bytes are no image, and the first field that is missing, cut or out of range begins there.
+abbrev pub IsUnspelled : List ℕ → Refusal → Type 0
+IsUnspelled bytes (Image place) = IsBadAt bytes place
+IsUnspelled bytes _ = ⊥
+
+-- The image that bytes spell
+abbrev pub decoding : List ℕ → Course CodeImage
+decoding bytes = step (λ it. spells_image it bytes) (IsUnspelled bytes)
+
+-- The code of an image isn't verified, and of its faults this is the least.
+abbrev pub IsUnverified : CodeImage → Refusal → Type 0
+IsUnverified it (Code number place) = IsLeastFault it.unit it.code number place
+IsUnverified it _ = ⊥
+
+-- The ways of an image's code, where it is verified
+abbrev pub verifying : CodeImage → Course WayLists
+verifying it = step (IsChecked it.unit it.code) (IsUnverified it)
+
+-- The image of a program: of its unit and of the code that the compiler makes of it, in at most 262,144 bytes
+abbrev pub imaging : Whole → Course (List ℕ)
+imaging unit = step (λ bytes. spells_image (image_of unit (code_of unit)) bytes × (length bytes ≤ FILE_BYTES))
+    (λ refusal. (refusal ≡ Large) × (bytes : List ℕ) × spells_image (image_of unit (code_of unit)) bytes × (FILE_BYTES < length bytes))
+
+-- What a trace of a program is judged by: the points that follow each point, the places of its rings, its last date, and the order of ties under a
+-- script
+abbrev pub judged_by : Whole → List (List (List ℕ)) → Sizes → ℕ → Said → Judged
+judged_by unit nexts sizes until script = record { unit = unit; nexts = nexts; rings = sizes.rings; until = until; order = order_of unit script }
+
+-- How many actions and how many looks a trace tells of
+pub record Counts : Type 0 where
+  pub acts : ℕ
+  pub looks : ℕ
+
+-- The first fault of a text as a trace
+abbrev pub IsUntrue : Judged → List ℕ → Refusal → Type 0
+IsUntrue j text (Trace number line) = first_fault j (lines_in j.unit j.until text) ≡ Some (fault_at number line)
+IsUntrue j text _ = ⊥
+
+-- A legal trace, by its counts
+abbrev pub auditing : Judged → List ℕ → Course Counts
+auditing j text = step (λ counts. IsLegal j (lines_in j.unit j.until text)
+    × (counts ≡ record { acts = length (acts_told (lines_in j.unit j.until text)); looks = length (looks_told (lines_in j.unit j.until text)) }))
+    (IsUntrue j text)
 
 -- The action graphs of a program's agents
 abbrev pub graphing : Whole → Course (List Graph)

@@ -28,6 +28,21 @@ pub enum Command<'a> {
         seed: u32,
         until: u32,
     },
+    Build {
+        program: &'a str,
+    },
+    Exec {
+        image: &'a str,
+        until: u32,
+        inputs: Option<&'a str>,
+        script: Option<&'a str>,
+    },
+    Audit {
+        program: &'a str,
+        until: u32,
+        trace: &'a str,
+        script: Option<&'a str>,
+    },
 }
 
 // The date that a word is.
@@ -54,12 +69,15 @@ fn seed(word: &[u8]) -> Option<u32>
     }
 }
 
-// `graph PROG` or `make SEED`
+// `graph PROG`, `make SEED` or `build PROG`
 fn of_two<'a>(command: &'a str, word: &'a str) -> Option<Command<'a>>
     ensures { MatchOption result (AskNothing (command.now ∷ word.now ∷ [])) (λ c. Asks (command.now ∷ word.now ∷ []) (asked_by c)) }
 {
     if command == "graph" {
         return Some(Command::Graph { program: word });
+    }
+    if command == "build" {
+        return Some(Command::Build { program: word });
     }
     if command == "make" {
         let seed = seed(word.as_bytes())?;
@@ -68,7 +86,7 @@ fn of_two<'a>(command: &'a str, word: &'a str) -> Option<Command<'a>>
     None
 }
 
-// `run PROG UNTIL`, `check PROG UNTIL` or `trial SEED UNTIL`
+// `run PROG UNTIL`, `check PROG UNTIL`, `trial SEED UNTIL` or `exec IMAGE UNTIL`
 fn of_three<'a>(command: &'a str, word: &'a str, until: &'a str) -> Option<Command<'a>>
     ensures { MatchOption result (AskNothing (command.now ∷ word.now ∷ until.now ∷ [])) (λ c. Asks (command.now ∷ word.now ∷ until.now ∷ []) (asked_by c)) }
 {
@@ -76,6 +94,14 @@ fn of_three<'a>(command: &'a str, word: &'a str, until: &'a str) -> Option<Comma
     if command == "run" {
         return Some(Command::Run {
             program: word,
+            until,
+            inputs: None,
+            script: None,
+        });
+    }
+    if command == "exec" {
+        return Some(Command::Exec {
+            image: word,
             until,
             inputs: None,
             script: None,
@@ -94,7 +120,7 @@ fn of_three<'a>(command: &'a str, word: &'a str, until: &'a str) -> Option<Comma
     None
 }
 
-// `run PROG UNTIL INPUTS`
+// `run PROG UNTIL INPUTS`, `exec IMAGE UNTIL INPUTS` or `audit PROG UNTIL TRACE`
 fn of_four<'a>(
     command: &'a str,
     program: &'a str,
@@ -113,10 +139,26 @@ fn of_four<'a>(
             script: None,
         });
     }
+    if command == "exec" {
+        return Some(Command::Exec {
+            image: program,
+            until,
+            inputs: Some(inputs),
+            script: None,
+        });
+    }
+    if command == "audit" {
+        return Some(Command::Audit {
+            program,
+            until,
+            trace: inputs,
+            script: None,
+        });
+    }
     None
 }
 
-// `run PROG UNTIL INPUTS SCRIPT`
+// `run PROG UNTIL INPUTS SCRIPT`, `exec IMAGE UNTIL INPUTS SCRIPT` or `audit PROG UNTIL TRACE SCRIPT`
 fn of_five<'a>(
     command: &'a str,
     program: &'a str,
@@ -133,6 +175,22 @@ fn of_five<'a>(
             program,
             until,
             inputs: Some(inputs),
+            script: Some(script),
+        });
+    }
+    if command == "exec" {
+        return Some(Command::Exec {
+            image: program,
+            until,
+            inputs: Some(inputs),
+            script: Some(script),
+        });
+    }
+    if command == "audit" {
+        return Some(Command::Audit {
+            program,
+            until,
+            trace: inputs,
             script: Some(script),
         });
     }

@@ -16,12 +16,14 @@ ghost use Rattle.psy_run.specs.Supplies.{supply_of};
 
 use crate::asked::{Command, read_words};
 use crate::costs::all_costs;
+use crate::image_commands::{build, exec};
 use crate::plan::plan_of;
 use crate::refusal::{Refusal, Stop};
 use crate::served::Served;
 use crate::steps::{compile, translate};
 use crate::supply::{Supplied, graphs, supply};
 use crate::told::{inputs_of, nothing_said, pace, script_of};
+use crate::trace_commands::audit;
 use psy_base::Memory;
 use psy_door::Shelf;
 use psy_history::{Inputs, Script, no_lists};
@@ -182,5 +184,22 @@ pub fn judge<F: Shelf>(alloc: Global, words: &[String], shelf: &mut F) -> Result
         Some(Command::Graph { program }) => draw(alloc, shelf, program),
         Some(Command::Make { seed }) => write_made(alloc, seed),
         Some(Command::Trial { seed, until }) => try_made(alloc, seed, until),
+        Some(Command::Build { program }) => build(alloc, shelf, program),
+        Some(
+            Command::Exec {
+                image,
+                until,
+                inputs,
+                script,
+            },
+        ) => exec(alloc, shelf, image, until, inputs, script),
+        Some(
+            Command::Audit {
+                program,
+                until,
+                trace,
+                script,
+            },
+        ) => audit(alloc, shelf, program, until, trace, script),
     }
 }

@@ -1,5 +1,7 @@
 //! Laws of the defined answer: words have one, and no other; of runs: they keep their bounds; and of checks: what they tell is borne out.
-ghost use Rattle.std.specs.Prelude.{◌≡◌, ℕ, ◌+◌, ◌≤◌, List, Option, Some, ℤ, length};
+ghost use Rattle.std.specs.Prelude.{◌≡◌, ℕ, ◌+◌, ◌≤◌, List, Option, Some, ℤ, length, FitsSigned};
+ghost use Rattle.std.specs.Int.{w32};
+ghost use Rattle.std.specs.List.{All};
 ghost use Rattle.psy_base.specs.declared.limits.TheConstants.{FILE_BYTES};
 ghost use Rattle.psy_door.specs.Files.{Files, bytes_under};
 ghost use Rattle.psy_dates.specs.declared.plan.Plan.{Plan};
@@ -9,7 +11,9 @@ ghost use Rattle.psy_base.specs.declared.ways.Ways.{Ways};
 ghost use Rattle.psy_budget.specs.declared.charge.Stall.{Stall};
 ghost use Rattle.psy_tree.specs.declared.unit.Unit.{Unit as Whole};
 ghost use Rattle.psy_history.specs.History.{history};
-ghost use Rattle.psy_meaning.specs.Units.{IsOfText};
+ghost use Rattle.psy_meaning.specs.Units.{IsBare, IsOfText};
+ghost use Rattle.psy_plan.specs.Supplies.{Supply};
+ghost use Rattle.psy_verify.specs.Fits.{IsChecked};
 ghost use Rattle.psy_history.specs.Compiled.{AreInputs, stated};
 ghost use Rattle.psy_history.specs.Feeding.{OverranAlike, Reaches};
 ghost use Rattle.psy_history.specs.declared.told.Script.{Script};
@@ -17,36 +21,50 @@ ghost use Rattle.psy_history.specs.Scripts.{IsScript, order_of};
 ghost use Rattle.psy_run.specs.Accepted.{IsRunnable};
 ghost use Rattle.psy_meaning.specs.ListedWays.{AreWaysOf};
 ghost use Rattle.psy_run.specs.declared.refusal.Refusal.{Refusal as Cause};
-ghost use Rattle.psy_run.specs.Answer.{Answers, answering, planning};
-ghost use Rattle.psy_run.specs.Asked.{Asks, Check, Run};
+ghost use Rattle.psy_run.specs.Answer.{Answers, answering, planning, supplying_by};
+ghost use Rattle.psy_run.specs.Asked.{Asks, Check, Exec, Run};
 ghost use Rattle.psy_run.specs.Bounds.{IsBounded, IsBorneOut, KeepsBounds};
 ghost use Rattle.psy_run.specs.OwnLines.{own_text};
 ghost use Rattle.psy_run.specs.Planned.{IsStatedPlan};
-ghost use Rattle.psy_run.specs.Services.{Service, Ran, meaning_of, text_of};
+ghost use Rattle.psy_run.specs.Services.{Service, Ran, meaning_by, meaning_of, text_of};
 
+use psy_build::laws::ranges;
 use psy_flow::laws::{listed, one_list};
 use psy_gen::laws::alike as generated;
 use psy_graph::laws::one_graph;
 use psy_history::laws::{
-    alike, compiled, isolation as histories, on_time, one_of_them, queue_sizes, regular, ring_sizes,
+    alike, compiled, fitting, isolation as histories, on_time, one_of_them, queue_sizes, regular,
+    ring_sizes,
 };
+use psy_image::laws::{one_image, one_text};
 use psy_make::laws::short;
 use psy_meaning::laws::sound;
-use psy_plan::laws::{one_plan, programs, supplies};
+use psy_plan::laws::{by_ways, one_plan, programs, supplies, supplies_by};
 use psy_script::laws::lawful;
 use psy_sizes::laws::listed_sizes;
+use psy_verify::laws::{fits as verified_fits, images, rules};
 
-/// Words have one answer, where files are told, and no other; and the program of a text that is refused is refused in one way, and not planned.
+/// Words have one answer, where files are told, and no other (that those of `exec` have one, the call itself shows, unless memory runs out); and the
+/// program of a text that is refused is refused in one way, and not planned.
 pub fn one_answer()
     ensures same { (words : List (List ℕ)) (files : Files) (status other : ℕ) (text another : List ℕ) → Answers words (Some files) status text
         → Answers words (Some files) other another → (status ≡ other) × (text ≡ another) }
-    ensures some { (words : List (List ℕ)) (files : Files) → (status : ℕ) × (text : List ℕ) × Answers words (Some files) status text }
+    ensures some { (words : List (List ℕ)) (files : Files) → ((image : List ℕ) (until : ℕ) (inputs script : Option (List ℕ))
+        → Asks words (Exec image until inputs script) → ⊥) → (status : ℕ) × (text : List ℕ) × Answers words (Some files) status text }
     ensures refused { (text : List ℕ) (until : ℕ) (refusal : Cause) → length text ≤ FILE_BYTES → (planning text until).stops refusal
         → ((other : Cause) → (planning text until).stops other → other ≡ refusal) × ((done : Service) → (planning text until).gives done → ⊥) }
 {
     one_plan();
+    by_ways();
     programs();
     short();
+    one_image();
+    one_text();
+    images();
+    rules();
+    verified_fits();
+    one_list();
+    ranges();
 }
 
 /// What psyc compiles and plans fits: a plan by the statements of its program is one that a kernel runs, whose code goes well by the lists of
@@ -61,6 +79,17 @@ pub fn fits()
     one_list();
 }
 
+/// What psyc verifies and plans fits: a plan of an image whose code was checked with its ways, and by them was supplied, is one that a kernel runs.
+pub fn fits_by()
+    ensures { (plan : Plan) (ways : Ways) (supply : Supply) → IsBare plan.unit → All (λ v. FitsSigned w32 v.init) plan.unit.variables
+        → IsChecked plan.unit plan.code ways → (supplying_by plan.unit ways plan.until).gives supply → plan.nexts ≡ ways.nexts
+        → plan.sizes ≡ supply.sizes → IsPlan plan }
+{
+    verified_fits();
+    supplies_by();
+    one_of_them();
+}
+
 /// A run keeps its bounds, for all inputs and every script: each action that is due by its last date has had all its work, up to its budget,
 /// by its deadline, no ring is reached for beyond its size, and no queue holds more messages than it has places.
 pub fn bounds()
@@ -70,6 +99,18 @@ pub fn bounds()
     compiled();
     regular();
     alike();
+    on_time();
+    ring_sizes();
+    queue_sizes();
+}
+
+/// A run of code by a plan that fits keeps its bounds, for all inputs and every script.
+pub fn bounds_by()
+    ensures { (plan : Plan) (inputs : List (List ℤ)) (script : Script) → IsPlan plan → AreInputs plan.unit inputs → IsScript plan.unit script
+        → KeepsBounds (meaning_by plan.unit plan.code plan.nexts inputs script) (order_of plan.unit script) plan.sizes plan.until }
+{
+    fitting();
+    regular();
     on_time();
     ring_sizes();
     queue_sizes();
@@ -88,6 +129,9 @@ pub fn bounded()
     lawful();
     bounds();
     supplies();
+    images();
+    fits_by();
+    bounds_by();
 }
 
 /// What a check tells is borne out: its lines are those of the agents' graphs, and their demand is met, over every length where it says so.

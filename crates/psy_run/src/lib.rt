@@ -1,11 +1,13 @@
 //! The top call of psyc: from words and the bytes of a program to a status and a text.
-//! It may know what plans programs, what reads inputs and scripts, the door and the kernel, through their public calls.
+//! It may know what plans programs, what reads inputs and scripts, what judges traces, the door and the kernel, through their public calls.
 #![tactic(auto)]
 
 mod asked;
 mod clean;
 mod commands;
 mod costs;
+mod image_commands;
+mod images;
 mod kernels;
 pub mod laws;
 mod plan;
@@ -17,6 +19,7 @@ mod supply;
 mod texts;
 mod told;
 mod top;
+mod trace_commands;
 
 pub use clean::psyc_over_clean;
 pub use kernels::{kernel_asked, kernel_of};

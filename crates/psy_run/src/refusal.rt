@@ -14,8 +14,10 @@ use psy_script::LineKind;
 #[derive(Clone, Copy, Debug, PartialEq, Eq)]
 pub enum File {
     Program,
+    Image,
     Inputs,
     Script,
+    Trace,
 }
 
 impl File {
@@ -26,8 +28,10 @@ impl File {
     {
         match self {
             File::Program => b"program",
+            File::Image => b"image",
             File::Inputs => b"inputs",
             File::Script => b"script",
+            File::Trace => b"trace",
         }
     }
 }
@@ -52,6 +56,20 @@ pub enum Refusal {
     Lines,
     /// The run would have more than 100,000,000 cycles.
     Cycles,
+    /// The bytes are no image: the first bad field begins behind so many.
+    Image(u32),
+    /// The code of an image isn't verified: of its faults the least by place, then number.
+    Code {
+        number: u32,
+        place: u32,
+    },
+    /// The image of a program would have more than 262,144 bytes.
+    Large,
+    /// The text isn't a legal trace: the first line that has a fault, counted from 1, and the least of its faults.
+    Trace {
+        number: u32,
+        line: u32,
+    },
 }
 
 /// Why a command stopped before anything was written.
@@ -80,8 +98,9 @@ impl Refusal {
         match self {
             Refusal::Unplanned(cause) => status_of_plan(cause),
             Refusal::Words => 2,
-            Refusal::Line { .. } => 6,
-            Refusal::TooLong(_) | Refusal::Lines | Refusal::Cycles => 7,
+            Refusal::Line { .. } | Refusal::Trace { .. } => 6,
+            Refusal::Image(_) | Refusal::Code { .. } => 1,
+            Refusal::TooLong(_) | Refusal::Lines | Refusal::Cycles | Refusal::Large => 7,
         }
     }
 
@@ -96,6 +115,10 @@ impl Refusal {
             Refusal::Line { file, kind, line } => refused(file.name(), kind.number(), line),
             Refusal::Lines => limit(b"lines", limits::LINES as u64),
             Refusal::Cycles => limit(b"run", limits::RUN),
+            Refusal::Image(place) => line(&Note::RefusedImage { place }),
+            Refusal::Code { number, place } => refused(b"verify", number, place),
+            Refusal::Trace { number, line } => refused(b"trace", number, line),
+            Refusal::Large => limit(b"image", limits::FILE_BYTES as u64),
         }
     }
 }

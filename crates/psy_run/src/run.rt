@@ -6,7 +6,7 @@ ghost use Rattle.psy_kernel.specs.Progress.{booted, lines_told, order, stage_of,
 ghost use Rattle.psy_kernel.specs.Texts.{log_of, run_text, summary_of, text_of};
 ghost use Rattle.psy_log.specs.Writing.{Written};
 ghost use Rattle.psy_run.specs.Cuts.{IsCutAt, log_lines, run_lines};
-ghost use Rattle.psy_run.specs.Runs.{all_given, ended};
+ghost use Rattle.psy_kernel.specs.Runs.{all_given, ended};
 
 use psy_door::Sink;
 use psy_kernel::{Kernel, Stage};

@@ -28,4 +28,13 @@ pub enum Served {
     Made(Vec<u8>),
     /// Runs a program that was made, and writes the summary alone: its kernel, just booted.
     Tried(Kernel),
+    /// Writes how many actions and how many looks a legal trace tells of.
+    Audited {
+        acts: u32,
+        looks: u32,
+    },
+    /// Writes the image of a program.
+    Built(Vec<u8>),
+    /// Runs the code of an image: its kernel, just booted.
+    Executed(Kernel),
 }

@@ -2,6 +2,7 @@
 ghost use Rattle.std.specs.Prelude.{ℕ, ◌≡◌, ◌≤◌, List, length, IfOk, IfErr, OnOk};
 ghost use Rattle.psy_base.specs.declared.limits.TheConstants.{FILE_BYTES};
 ghost use Rattle.psy_meaning.specs.Units.{IsOfText};
+ghost use Rattle.psy_plan.specs.Programs.{IsProgram};
 ghost use Rattle.psy_run.specs.Answer.{compiling, translating};
 ghost use Rattle.psy_run.specs.Outcome.{Halts, TookLimit, Unfailed};
 ghost use Rattle.psy_run.specs.Steps.{reading};
@@ -45,6 +46,7 @@ pub fn translate(alloc: Global, bytes: &Vec<u8>) -> Result<Unit, Stop>
 pub fn compile<F: Shelf>(alloc: Global, shelf: &mut F, name: &str) -> Result<Unit, Stop>
     ensures ok { IfOk result (λ unit. (compiling (F.files shelf.old) name.now).gives unit) }
     ensures text { IfOk result IsOfText }
+    ensures program { IfOk result (λ unit. (bytes : List ℕ) × (length bytes ≤ FILE_BYTES) × IsProgram bytes unit) }
     ensures err { IfErr result (Halts (compiling (F.files shelf.old) name.now) (F.failed_name shelf.new) (F.faults shelf.old) (F.faults shelf.new)) }
     ensures long { IfErr result (TookLimit (F.taken shelf.new)) }
     ensures unfailed { OnOk result (F.faults shelf.new ≡ F.faults shelf.old) }

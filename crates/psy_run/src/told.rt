@@ -2,7 +2,7 @@
 ghost use Rattle.std.specs.Prelude.{ℕ, ◌≡◌, ◌≤◌, List, IfOk, IfErr, OnOk, option_copied};
 ghost use Rattle.psy_history.specs.Compiled.{AreInputs};
 ghost use Rattle.psy_history.specs.Scripts.{IsScript};
-ghost use Rattle.psy_meaning.specs.Units.{IsOfText};
+ghost use Rattle.psy_meaning.specs.Units.{IsBare};
 ghost use Rattle.psy_run.specs.Answer.{listing, scripting};
 ghost use Rattle.psy_run.specs.Outcome.{Halts, TookLimit, Unfailed};
 ghost use Rattle.psy_run.specs.Refusals.{stop_by};
@@ -42,7 +42,7 @@ fn refused(file: File, fault: TextFault) -> Stop
 
 // The lists that the text of an inputs file states.
 fn state(alloc: Global, unit: &Unit, bytes: &Vec<u8>) -> Result<Inputs, Stop>
-    requires { IsOfText unit.now }
+    requires { IsBare unit.now }
     ensures ok { IfOk result (λ inputs. (stating unit.now bytes.now.items).gives inputs.lists) }
     ensures inputs { IfOk result (λ inputs. AreInputs unit.now inputs.lists) }
     ensures err { (failed : List ℕ) (before after : ℕ) → IfErr result (Halts (stating unit.now bytes.now.items) failed before after) }
@@ -55,7 +55,7 @@ fn state(alloc: Global, unit: &Unit, bytes: &Vec<u8>) -> Result<Inputs, Stop>
 
 // The script that the text of a script file states.
 fn direct(alloc: Global, unit: &Unit, bytes: &Vec<u8>) -> Result<Script, Stop>
-    requires { IsOfText unit.now }
+    requires { IsBare unit.now }
     ensures ok { IfOk result (λ script. (directing unit.now bytes.now.items).gives script) }
     ensures script { IfOk result (IsScript unit.now) }
     ensures err { (failed : List ℕ) (before after : ℕ) → IfErr result (Halts (directing unit.now bytes.now.items) failed before after) }
@@ -73,7 +73,7 @@ pub fn inputs_of<F: Shelf>(
     unit: &Unit,
     name: Option<&str>,
 ) -> Result<Inputs, Stop>
-    requires text { IsOfText unit.now }
+    requires bare { IsBare unit.now }
     ensures ok { IfOk result (λ inputs. (listing (F.files shelf.old) unit.now (option_copied name.entry)).gives inputs.lists) }
     ensures inputs { IfOk result (λ inputs. AreInputs unit.now inputs.lists) }
     ensures err { IfErr result (Halts (listing (F.files shelf.old) unit.now (option_copied name.entry)) (F.failed_name shelf.new) (F.faults shelf.old)
@@ -97,7 +97,7 @@ pub fn script_of<F: Shelf>(
     unit: &Unit,
     name: Option<&str>,
 ) -> Result<Script, Stop>
-    requires text { IsOfText unit.now }
+    requires bare { IsBare unit.now }
     ensures ok { IfOk result (λ script. (scripting (F.files shelf.old) unit.now (option_copied name.entry)).gives script) }
     ensures script { IfOk result (IsScript unit.now) }
     ensures err { IfErr result (Halts (scripting (F.files shelf.old) unit.now (option_copied name.entry)) (F.failed_name shelf.new) (F.faults shelf.old)

@@ -1,6 +1,7 @@
 //! The top call.
 ghost use Rattle.std.specs.Prelude.{◌≡◌, ◌≢◌, ℕ, ℤ, ◌≤◌, ◌⊎◌, List, [], map, string_bytes, Option, None, Some, IfSome, OnOk, OnErr, MatchResult};
 ghost use Rattle.psy_base.specs.declared.sizes.Sizes.{Sizes};
+ghost use Rattle.psy_code.specs.declared.code.Code.{Code};
 ghost use Rattle.psy_door.specs.Faults.{Rose};
 ghost use Rattle.psy_door.specs.Files.{Files};
 ghost use Rattle.psy_door.specs.Growth.{Grew, GrewByFront};
@@ -19,18 +20,18 @@ ghost use Rattle.psy_run.specs.Asked.{AskNothing};
 ghost use Rattle.psy_run.specs.Bounds.{IsBounded, IsBorneOut, KeepsBounds};
 ghost use Rattle.psy_run.specs.Outcome.{CanServe, Ends, IsPastLimit, IsUnread, MayAnswer, Says};
 ghost use Rattle.psy_run.specs.Refusals.{status_of, line_of, file_name};
-ghost use Rattle.psy_run.specs.Services.{Leaves, Ran, Service, meaning_of, service_of, text_of};
+ghost use Rattle.psy_run.specs.Services.{Executed, Leaves, Ran, Service, meaning_by, meaning_of, service_of, text_of};
 
 use crate::commands::judge;
-use crate::laws::{borne_out, bounded, bounds, one_answer};
+use crate::laws::{borne_out, bounded, bounds, bounds_by, one_answer};
 use crate::refusal::{Stop, unread_line};
 use crate::run::{run_loop, trial_loop};
 use crate::served::Served;
-use crate::texts::{write_check, write_graph};
+use crate::texts::{write_check, write_graph, write_note};
 use psy_door::{Shelf, Sink};
 use psy_history::laws::alike;
 use psy_kernel::Kernel;
-use psy_log::{Line, WriteFault, write_all_of};
+use psy_log::{Line, Note, WriteFault, write_all_of};
 use std::alloc::Global;
 
 // Writes a line and answers with this status.
@@ -106,6 +107,27 @@ fn try_run<S: Sink>(
     Ok(())
 }
 
+// Runs the code of an image by a kernel that was just booted, and leaves it.
+fn execute<S: Sink>(
+    mut kernel: Kernel,
+    out: &mut S,
+    left: &mut Option<Kernel>,
+) -> Result<(), WriteFault>
+    requires can { CanServe (Served.Executed kernel) }
+    requires empty { left.old ≡ None }
+    ensures counted { S.faults out.old ≤ S.faults out.new }
+    ensures failed { OnErr result (Rose (S.faults out.old) (S.faults out.new)) }
+    ensures unfailed { OnOk result (S.faults out.new ≡ S.faults out.old) }
+    ensures written { Written (S.held out.old) (S.held out.new) result (text_of (service_of (Served.Executed kernel))) }
+    ensures over { MatchResult result (λ done. Leaves (service_of (Served.Executed kernel)) left.new) (λ fault. left.new ≡ None) }
+{
+    if let Err(fault) = run_loop(&mut kernel, out) {
+        return Err(fault);
+    }
+    *left = Some(kernel);
+    Ok(())
+}
+
 // Does what is served, and writes its text.
 fn serve<S: Sink>(served: Served, out: &mut S, left: &mut Option<Kernel>) -> Result<(), WriteFault>
     requires can { CanServe served }
@@ -118,6 +140,7 @@ fn serve<S: Sink>(served: Served, out: &mut S, left: &mut Option<Kernel>) -> Res
     ensures bounded { IsBounded (service_of served) }
 {
     bounds();
+    bounds_by();
     match served {
         Served::Ran(kernel) => run(kernel, out, left),
         Served::Checked {
@@ -133,6 +156,9 @@ fn serve<S: Sink>(served: Served, out: &mut S, left: &mut Option<Kernel>) -> Res
         } => { write_graph(&unit, graphs.as_slice(), costs.as_slice(), out) }
         Served::Made(text) => write_all_of(out, text.as_slice()),
         Served::Tried(kernel) => try_run(kernel, out, left),
+        Served::Built(image) => write_all_of(out, image.as_slice()),
+        Served::Executed(kernel) => execute(kernel, out, left),
+        Served::Audited { acts, looks } => write_note(out, &Note::Legal { acts, looks }),
     }
 }
 
@@ -199,6 +225,15 @@ pub fn psyc<F: Shelf, S: Sink>(
         → (Rose (F.faults shelf.old) (F.faults shelf.new) → ⊥) → (Rose (S.faults out.old) (S.faults out.new) → ⊥)
         → ((result ≡ 0) × Grew (S.held out.old) (S.held out.new) (run_text (meaning_of unit nexts lists said) (order_of unit said) sizes until)
         × KeepsBounds (meaning_of unit nexts lists said) (order_of unit said) sizes until)
+        ⊎ ((result ≡ 8) × Grew (S.held out.old) (S.held out.new) []) }
+
+    // So is a run of the code of an image: what is written is the dated meaning of that code.
+    ensures executed { (files : Files) (unit : Whole) (code : Code) (nexts : List (List (List ℕ))) (sizes : Sizes) (until : ℕ) (lists : List (List ℤ))
+        (said : Script) → F.files shelf.old ≡ Some files
+        → (answering (map string_bytes words.now) (Some files)).gives (Executed unit code nexts sizes until lists said)
+        → (Rose (F.faults shelf.old) (F.faults shelf.new) → ⊥) → (Rose (S.faults out.old) (S.faults out.new) → ⊥)
+        → ((result ≡ 0) × Grew (S.held out.old) (S.held out.new) (run_text (meaning_by unit code nexts lists said) (order_of unit said) sizes until)
+        × KeepsBounds (meaning_by unit code nexts lists said) (order_of unit said) sizes until)
         ⊎ ((result ≡ 8) × Grew (S.held out.old) (S.held out.new) []) }
 
     // A limit: the refusal's line was written; where a file was too long, the shelf took one byte more than a file may have.

@@ -22,5 +22,6 @@ mod SpreadOf
 mod SpreadSums
 mod Tables
 mod Told
+mod ToldLists
 mod WindowOf
 mod WindowsOf

@@ -7,10 +7,10 @@ ghost use Rattle.psy_tree.specs.declared.unit.Unit.{Unit as Whole};
 ghost use Rattle.psy_meaning.specs.BufferSizes.{AreSizes};
 ghost use Rattle.psy_meaning.specs.Flow.{AreAllNexts};
 ghost use Rattle.psy_meaning.specs.KnownWays.{Listed, OfText};
-ghost use Rattle.psy_meaning.specs.ListedWays.{AreWaysOf};
-ghost use Rattle.psy_meaning.specs.Units.{IsOfText};
+ghost use Rattle.psy_meaning.specs.ListedWays.{AreWaysFor, AreWaysOf};
+ghost use Rattle.psy_meaning.specs.Units.{IsBare, IsOfText};
 ghost use Rattle.psy_graph.specs.declared.graph.Graph.{Graph};
-ghost use Rattle.psy_graph.specs.Graphs.{AreGraphs};
+ghost use Rattle.psy_graph.specs.Graphs.{AreGraphs, AreGraphsBy};
 ghost use Rattle.psy_sizes.specs.declared.fault.SizeFault.{SizeFault};
 ghost use Rattle.psy_sizes.specs.Faults.{CanCount, IsFaultBy};
 
@@ -40,6 +40,22 @@ pub fn one_size()
     one_graph();
     greatest();
     listed();
+}
+
+/// By ways that are given as lists, which needn't be those of statements, there is one list of sizes at most, one fault at most, and not both.
+pub fn one_size_by()
+    ensures same { (unit : Whole) (ways : Ways) (graphs : List Graph) (sizes others : Sizes) → IsBare unit → AreWaysFor unit ways
+        → AreGraphsBy unit ways.nexts graphs → AreSizes unit (Listed ways) ways.nexts sizes → AreSizes unit (Listed ways) ways.nexts others → sizes ≡ others }
+    ensures apart { (unit : Whole) (ways : Ways) (graphs : List Graph) (sizes : Sizes) (fault : SizeFault) → IsBare unit → AreWaysFor unit ways
+        → AreGraphsBy unit ways.nexts graphs → AreSizes unit (Listed ways) ways.nexts sizes → CanCount unit (Listed ways) ways.nexts
+        → IsFaultBy unit (Listed ways) ways.nexts fault → ⊥ }
+    ensures cause { (unit : Whole) (ways : Ways) (graphs : List Graph) (fault other : SizeFault) → IsBare unit → AreWaysFor unit ways
+        → AreGraphsBy unit ways.nexts graphs → IsFaultBy unit (Listed ways) ways.nexts fault → IsFaultBy unit (Listed ways) ways.nexts other
+        → fault ≡ other }
+{
+    dates();
+    one_graph();
+    greatest();
 }
 
 /// By the lists of the ways of a program's statements, sizes and faults are those by the statements.

@@ -13,4 +13,4 @@ mod spelling;
 pub use fault::LexFault;
 pub use number::decimal_value;
 pub use pass::lex;
-pub use spelling::{sign_spelling, word_spelling};
+pub use spelling::{reserved, sign_spelling, word_spelling};

@@ -256,7 +256,7 @@ module _ (unit : Whole) (code : Code) (v : IsVerified unit code) (agent : ℕ) (
     }
 
     is_counted : IsCounted code function
-    is_counted = (named (instr.Call function) at, λ place. v.balanced place (Function function))
+    is_counted = (named (instr.Call function) at, λ place _. v.balanced place (Function function))
 
     calls_it : Calls code level.owner m.place function (level.height - its.params)
     calls_it = (subst (λ n. IsHeight code level.owner m.place n) (omega (arith, arguments)) level.reached, at)

@@ -13,3 +13,4 @@ mod Tables
 mod Wells
 mod Worked
 mod WorkedCalls
+mod images

@@ -134,7 +134,7 @@ module _ (stack frames : ℕ) (locals : List ℤ) (counters : ℕ) where
   closed (suc (suc (suc (suc (suc (suc (suc (suc place)))))))) height is = absurd (none-some height is)
 
   counted : IsCounted code 0
-  counted = (omega arith, by_table code (Function 0) height_at own_start closed)
+  counted = (omega arith, λ place _. by_table code (Function 0) height_at own_start closed place)
 
   height_5 : IsHeight code (Function 0) 5 1
   height_5 = moved 4 5 0 1 (instr.Push (pos 1)) (at_start 4 (omega arith, refl)) refl (_, inl refl, refl, omega arith, omega arith)
@@ -175,7 +175,7 @@ leaves_two unit = (Balanced, refl, λ balanced. (let alone : 2 ≡ 1 = (balanced
 
 -- It isn't counted, so its call finds no fault.
 pub not_counted : IsCounted left 0 → ⊥
-not_counted counted = (let alone : 2 ≡ 1 = (counted.1 6).there 2 instr.Return left_6 refl in omega (arith, alone))
+not_counted counted = (let alone : 2 ≡ 1 = (counted.1 6 (omega arith)).there 2 instr.Return left_6 refl in omega (arith, alone))
 
 -- The function calls itself.
 pub calls_itself : (unit : Whole) → IsFault unit (calling (just (instr.Call 0)) 2 0 [] 0) 6 4

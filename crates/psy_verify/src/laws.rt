@@ -19,7 +19,9 @@ ghost use Rattle.psy_meaning.specs.Alike.{IsViewOf};
 ghost use Rattle.psy_meaning.specs.ListedWays.{AreWaysFor};
 ghost use Rattle.psy_meaning.specs.Units.{IsBare};
 ghost use Rattle.psy_history.specs.Fitting.{FitsBy, IsCodeFor};
-ghost use Rattle.psy_verify.specs.Fits.{IsChecked};
+ghost use Rattle.psy_image.specs.declared.image.Image.{Image as image_type};
+ghost use Rattle.psy_image.specs.Images.{spells_image};
+ghost use Rattle.psy_verify.specs.Fits.{IsChecked, IsSoundImage};
 ghost use Rattle.psy_verify.specs.Worked.{HasOwn, beginning, calling, counting, ended, ending, growing, heavy};
 ghost use Rattle.psy_verify.specs.Worked.{idle, just, leaving, pair, returning, shared, sum, uneven};
 ghost use Rattle.psy_flow.specs.Needs.{IsCounted};
@@ -29,6 +31,7 @@ ghost use Rattle.psy_flow.specs.Owners.{Agent};
 ghost use Rattle.psy_flow.specs.Verified.{Balanced, IsFault, IsLeastFault, IsNamed, IsVerified, Keeps, Rule};
 
 use psy_code::laws::lasting;
+use psy_image::laws::names;
 
 /// Code is verified exactly where each place keeps each rule, and then no fault is present. No two faults are the least.
 pub fn rules()
@@ -84,6 +87,13 @@ pub fn fits()
         → IsChecked unit code ways → FitsBy unit code ways }
 {
     lasting();
+}
+
+/// What bytes spell as an image is a bare unit with code for its agents.
+pub fn images()
+    ensures { (bytes : List ℕ) (it : image_type) → spells_image it bytes → IsSoundImage it }
+{
+    names();
 }
 
 /// Small codes that were worked out by hand, without functions: one that is verified, and faults of others. Where a height ends at an

@@ -1,5 +1,9 @@
-//! The verifier: what it means that code of any origin is verified, and what its runs then keep.
-//! It may know units, code and ways; no text, no compiler.
+//! The verifier: what it means that code of any origin is verified, and what its runs then keep. `verify` judges the code of an image.
+//! It may know units, code, ways and images; no text, no compiler.
 #![tactic(auto)]
 
 pub mod laws;
+mod verifying;
+
+pub use psy_judge::VerifyFault;
+pub use verifying::{Checked, verify};

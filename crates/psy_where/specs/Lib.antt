@@ -1,5 +1,6 @@
 -- The definitions of this crate, by subject.
 pub mod Besides
+pub mod Broken
 pub mod Bytes
 pub mod Explained
 pub mod Helps
@@ -11,4 +12,5 @@ pub mod Notes
 pub mod Places
 pub mod Plains
 pub mod Refusals
+pub mod Untrue
 pub mod Writings

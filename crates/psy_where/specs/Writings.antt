@@ -10,7 +10,7 @@ use Rattle.psy_log.specs.Table.{Said}
 use Rattle.psy_notes.specs.Reading.{kind_at}
 use Rattle.psy_where.specs.declared.written.Written.{Written}
 use Rattle.psy_where.specs.declared.written.Written.TheVariants.{Value, Message, Overrun, Divide, Index, Loop, Take, End, Feasible, VariableSize, StreamSize}
-use Rattle.psy_where.specs.declared.written.Written.TheVariants.{Agent, Variable, Stream, Rate, Edge, Node}
+use Rattle.psy_where.specs.declared.written.Written.TheVariants.{Agent, Variable, Stream, Rate, Edge, Node, Legal}
 use Rattle.psy_where.specs.Notes.{IsNoteOf}
 
 -- What a stop says, by its trap
@@ -38,6 +38,7 @@ written_in form.Feasible said = Some Feasible
 written_in form.AgentGraph said = Some Agent
 written_in form.Node said = Some Node
 written_in form.EdgeOf said = Some Edge
+written_in form.Legal said = Some Legal
 written_in _ said = None
 
 -- The line says this.
@@ -68,6 +69,7 @@ written_words Variable = codes "so many values of a variable are kept, and behin
 written_words Stream = codes "for so many messages of a stream there is room, and behind that stands how many it held at most"
 written_words Rate = codes "it is the line above an agent's demand: its rate and its intercept, in parts of a cycle"
 written_words Edge = codes "it is an edge of an agent's graph: from which node to which, and how many ticks long"
+written_words Legal = codes "the trace is legal, and tells of so many actions and so many looks"
 written_words Node = codes "it is a node of an agent's graph: its number, its point, its phase, BUDGET, WORST and DUE"
 
 -- That it refuses nothing, and what it means

@@ -5,6 +5,7 @@
 
 mod answer;
 mod brace;
+mod broken;
 mod byte;
 mod fault;
 mod help;
@@ -17,10 +18,12 @@ mod plain;
 mod program;
 mod recall;
 mod sentence;
+mod untrue;
 mod with_feed;
 mod written;
 
 pub use answer::{explain, plain_told};
+pub use broken::Broken;
 pub use byte::ByteSlip;
 pub use fault::WhereFault;
 pub use indent::Pair;
@@ -29,4 +32,5 @@ pub use limit::Limit;
 pub use plain::{Plain, plain_of};
 pub use program::beside;
 pub use recall::{Refusal, What};
+pub use untrue::Untrue;
 pub use written::Written;

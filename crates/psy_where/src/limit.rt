@@ -9,10 +9,14 @@ use psy_base::limits;
 pub enum Limit {
     /// Of the bytes of a program.
     Program,
+    /// Of the bytes of an image.
+    Image,
     /// Of the bytes of a file of inputs.
     Inputs,
     /// Of the bytes of a script.
     Script,
+    /// Of the bytes of a trace.
+    Trace,
     /// Of clocks.
     Clocks,
     /// Of agents.
@@ -43,10 +47,12 @@ pub enum Limit {
     Cycles,
 }
 
-const LIMITS: [Limit; 17] = [
+const LIMITS: [Limit; 19] = [
     Limit::Program,
+    Limit::Image,
     Limit::Inputs,
     Limit::Script,
+    Limit::Trace,
     Limit::Clocks,
     Limit::Agents,
     Limit::Variables,
@@ -84,8 +90,10 @@ fn limit_name(limit: Limit) -> &'static [u8]
 {
     match limit {
         Limit::Program => b"program",
+        Limit::Image => b"image",
         Limit::Inputs => b"inputs",
         Limit::Script => b"script",
+        Limit::Trace => b"trace",
         Limit::Clocks => b"clocks",
         Limit::Agents => b"agents",
         Limit::Variables => b"variables",
@@ -107,7 +115,9 @@ fn limit_number(limit: Limit) -> u64
     ensures { result ≡ limit_number limit }
 {
     match limit {
-        Limit::Program | Limit::Inputs | Limit::Script => limits::FILE_BYTES as u64,
+        Limit::Program | Limit::Image | Limit::Inputs | Limit::Script | Limit::Trace => {
+            limits::FILE_BYTES as u64
+        }
         Limit::Clocks => limits::CLOCKS as u64,
         Limit::Agents => limits::AGENTS as u64,
         Limit::Variables => limits::VARIABLES as u64,
@@ -131,8 +141,10 @@ pub fn limit_sentence(limit: Limit) -> &'static [u8]
 {
     match limit {
         Limit::Program => b"the program has more than 262144 bytes",
+        Limit::Image => b"the image has more than 262144 bytes",
         Limit::Inputs => b"the file of inputs has more than 262144 bytes",
         Limit::Script => b"the script has more than 262144 bytes",
+        Limit::Trace => b"the trace has more than 262144 bytes",
         Limit::Clocks => b"more than 64 clocks are declared",
         Limit::Agents => b"more than 64 agents are declared",
         Limit::Variables => b"more than 256 temporal variables and inputs are declared",

@@ -43,6 +43,8 @@ pub enum Written {
     Edge,
     /// A node of a graph.
     Node,
+    /// A trace is legal.
+    Legal,
 }
 
 /// What a note is, where it refuses nothing.
@@ -64,6 +66,7 @@ pub fn written_of(note: Note<'_>) -> Option<Written>
         Note::Always | Note::Feasible { .. } => Some(Written::Feasible),
         Note::Node { .. } => Some(Written::Node),
         Note::EdgeOf { .. } => Some(Written::Edge),
+        Note::Legal { .. } => Some(Written::Legal),
         _ => None,
     }
 }
@@ -114,5 +117,6 @@ pub fn written_words(written: Written) -> &'static [u8]
             b"it is an edge of an agent's graph: from which node to which, and how many ticks long",
         Written::Node =>
             b"it is a node of an agent's graph: its number, its point, its phase, BUDGET, WORST and DUE",
+        Written::Legal => b"the trace is legal, and tells of so many actions and so many looks",
     }
 }

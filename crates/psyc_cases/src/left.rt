@@ -1,15 +1,17 @@
 //! What a call of `psyc` is to leave.
 use psy_kernel::{Kernel, Stage};
 
-// The words ask for a run or a trial.
+// The words ask for a run, of a program or of an image, or for a trial.
 fn is_run(words: &[String]) -> bool {
     match words {
-        [command, ..] => command.as_str() == "run" || command.as_str() == "trial",
+        [command, ..] => {
+            command.as_str() == "run" || command.as_str() == "trial" || command.as_str() == "exec"
+        }
         [] => false,
     }
 }
 
-/// A kernel is left, and is over, exactly where a run or a trial ended with status 0.
+/// A kernel is left, and is over, exactly where such a run or a trial ended with status 0.
 pub fn is_sound(words: &[String], status: u8, left: &Option<Kernel>) -> bool {
     let ran = status == 0 && is_run(words);
     match left {

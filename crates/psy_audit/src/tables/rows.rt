@@ -6,6 +6,7 @@ ghost use Rattle.psy_audit.specs.declared.said.Publication.{Publication as Told}
 ghost use Rattle.psy_audit.specs.declared.said.Segment.{Segment as Stretch};
 
 use crate::said::{Act, Publication, Segment};
+use crate::stretches::Stretches;
 use psy_base::{Items, Memory};
 use std::alloc::Global;
 
@@ -77,17 +78,17 @@ pub fn segments_of_agent(
     alloc: Global,
     segments: &[Segment],
     agent: u32,
-) -> Result<Items<Segment>, Memory>
+) -> Result<Stretches, Memory>
     ensures { IfOk result (λ its. its ≡ filter (λ (s : Stretch). s.agent == agent) segments.now) }
 {
-    let mut its = Items::new(alloc);
+    let mut its = Stretches::new(alloc);
     'segments: for segment in segments {
         keep_of_agent(&mut its, segment, agent)?;
     }
     Ok(its)
 }
 
-fn keep_of_agent(its: &mut Items<Segment>, segment: &Segment, agent: u32) -> Result<(), Memory>
+fn keep_of_agent(its: &mut Stretches, segment: &Segment, agent: u32) -> Result<(), Memory>
     ensures { OnOk result (its.new ≡ its.old ++ filter (λ (s : Stretch). s.agent == agent) (segment.now ∷ [])) }
 {
     if segment.agent == agent {

@@ -10,7 +10,8 @@ ghost use Rattle.psy_kernel.specs.Acting.{IsLookIn};
 ghost use Rattle.psy_kernel.specs.Engines.{done_on, history_of, next_date, ties};
 ghost use Rattle.psy_kernel.specs.Seeing.{view_in};
 ghost use Rattle.psy_kernel.specs.Standing.{IsRunning, charge_after};
-ghost use Rattle.psy_kernel.specs.Units.{IsLookAt, IsLookOf, MaySee, served_at, slot_of};
+ghost use Rattle.psy_kernel.specs.Units.{IsLookAt, IsLookOf, MaySee, served_at};
+ghost use Rattle.psy_history.specs.Rings.{slot_of};
 
 use super::cycle::{choose, gets, last_date, order_by};
 use super::{Engine, Runner};

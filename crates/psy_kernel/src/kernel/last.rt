@@ -1,6 +1,9 @@
 //! What was done last, and what a kernel has.
 ghost use Rattle.std.specs.Prelude.{◌≡◌};
+ghost use Rattle.psy_dates.specs.Plans.{IsPlan};
 ghost use Rattle.psy_dates.specs.Standing.{SharedStands};
+ghost use Rattle.psy_history.specs.Compiled.{AreInputs};
+ghost use Rattle.psy_history.specs.Scripts.{IsScript};
 ghost use Rattle.psy_kernel.specs.Progress.{IsSeenIn, at_rest, ran_in, system, turns_so_far};
 
 use super::Kernel;
@@ -29,9 +32,12 @@ impl Kernel {
         }
     }
 
-    /// The plan that is run. It takes no memory.
+    /// The plan that is run: it fits, and inputs and script are such as it may be run with. It takes no memory.
     pub fn plan(&self) -> &Plan
-        ensures { result.now ≡ self.now.plan }
+        ensures plan { result.now ≡ self.now.plan }
+        ensures fits { IsPlan self.now.plan }
+        ensures inputs { AreInputs self.now.plan.unit self.now.inputs }
+        ensures script { IsScript self.now.plan.unit self.now.script }
     {
         self.engine.plan()
     }

@@ -1,6 +1,5 @@
 -- What is left of the proof of `faults::has_cycles`.
-use Rattle.std.proofs.Common.{◌∙◌, ◌==◌, List, filter, ap}
-use Rattle.psy_audit.specs.declared.said.Segment.{Segment}
+use Rattle.std.proofs.Common.{◌∙◌, ap}
 use Rattle.psy_audit.specs.Courses.{are_cycles}
 use Rattle.psy_audit.specs.Judging.{untied}
 use Rattle.psy_audit.proofs.Firsts.{own_segments}
@@ -12,5 +11,5 @@ returns c =
     let a = c.args.act.now in
     c.are_cycles.ensures
     ∙ ap (λ its. are_cycles (untied t.plan.now) its a)
-    (c.as_slice.ensures ∙ c.in_ok-its.ensures ∙ ap (λ (xs : List Segment). filter (λ (s : Segment). s.number == a.number) xs) c.segments_of.ensures
+    (c.as_slice.ensures ∙ c.in_ok-its.ensures ∙ c.segments_near.ensures
     ∙ own_segments t.lines.now a.agent a.number)

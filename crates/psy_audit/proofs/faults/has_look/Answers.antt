@@ -1,5 +1,5 @@
 -- What is left of the proof of `faults::has_look`.
-use Rattle.std.proofs.Common.{◌∙◌, ◌==◌, List, filter, ap}
+use Rattle.std.proofs.Common.{◌∙◌, List, ap}
 use Rattle.std.specs.List.{list_any}
 use Rattle.psy_audit.specs.declared.said.Act.{Act}
 use Rattle.psy_audit.specs.declared.said.Publication.{Publication}
@@ -16,7 +16,7 @@ returns c =
     let l = c.args.look.now in
     let j = untied t.plan.now in
     let is = λ (its : List Segment) (published : List Publication) (acts : List Act). list_any (is_look_with j its published l) acts in
-    let its = c.as_slice.ensures ∙ c.in_ok-its.ensures ∙ ap (λ (xs : List Segment). filter (λ (s : Segment). s.number == l.number) xs) c.segments_of.ensures
+    let its = c.as_slice.ensures ∙ c.in_ok-its.ensures ∙ c.segments_near.ensures
     ∙ own_segments t.lines.now l.agent l.number in
     c.is_look.ensures
     ∙ ap (λ xs. is xs c.publications_of.result.now c.acts_of.result.now) its

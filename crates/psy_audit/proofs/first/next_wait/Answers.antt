@@ -1,9 +1,9 @@
 -- What is left of the proof of `first::next_wait`.
-use Rattle.std.proofs.Common.{◌≤◌, map, subst, ap, arith}
+use Rattle.std.proofs.Common.{◌≤◌, subst, arith}
 use Rattle.std.specs.List.{All}
 use Rattle.std.proofs.lemmas.List.{take_all}
-use Rattle.psy_audit.specs.declared.waits.Wait.{Wait}
-use Rattle.psy_audit.proofs.Edges.{WaitsApart, sooner_still, waits_more, waits_steady}
+use Rattle.psy_audit.specs.Apart.{IsSteady}
+use Rattle.psy_audit.proofs.Edges.{sooner_still, waits_more}
 use Rattle.psy_audit.proofs.first.next_wait.Goals as goal
 
 pub waits-preserved : goal.waits-preserved
@@ -20,8 +20,7 @@ waits-preserved c =
           (sooner_still c.args.cycle mid next _ less c.released-begun.ensures.passed);
     }
 
-pub returns-clause-same : goal.returns-clause-same
-returns-clause-same c = λ k low high.
+pub returns-clause-steady : goal.returns-clause-steady
+returns-clause-steady c =
     let waits = c.args.waits.now in
-    let all = subst (All (WaitsApart c.args.cycle c.waits.next)) (take_all c.waits.wait-index waits (omega (arith, c.waits-test.false))) c.waits.invariant.apart in
-    ap (map (λ (w : Wait). w.act)) (waits_steady c.args.cycle c.waits.next k low high waits all)
+    subst (All (IsSteady c.args.cycle c.waits.next)) (take_all c.waits.wait-index waits (omega (arith, c.waits-test.false))) c.waits.invariant.apart

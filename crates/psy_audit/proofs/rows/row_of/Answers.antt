@@ -20,6 +20,6 @@ returns c = λ all acts segments_are.
     let its = c.in_ok-acts.ensures ∙ ap (λ (xs : List Act). filter (λ (a : Act). a.agent == agent) xs) acts in
     let own = c.in_ok-segments.ensures ∙ ap (λ (xs : List Segment). filter (λ (s : Segment). s.agent == agent) xs) segments_are in
     let waits = λ (xs : List Act) (ss : List Segment). map (λ (a : Act). wait_in j (filter (λ (s : Segment). s.number == a.number) ss) a) xs in
-    let wait = c.in_ok-waits.ensures ∙ ap (λ xs. waits xs c.as_slice-2.result.now) (c.as_slice.ensures ∙ its) ∙ ap (waits (acts_of agent all)) (c.as_slice-2.ensures ∙ own) ∙ waits_are j all agent in
+    let wait = c.in_ok-waits.ensures ∙ ap (λ xs. waits xs c.in_ok-segments.segments) (c.as_slice.ensures ∙ its) ∙ ap (waits (acts_of agent all)) own ∙ waits_are j all agent in
     ap (λ xs. made xs c.in_ok-segments.segments c.in_ok-waits.waits) its ∙ ap (λ ss. made (acts_of agent all) ss c.in_ok-waits.waits) own
     ∙ ap (made (acts_of agent all) (filter (λ (s : Segment). s.agent == agent) (segments all))) wait

@@ -1,6 +1,6 @@
 -- What each loop of `heights::pass` keeps.
 use Rattle.std.proofs.Common.{◌≡◌, length}
-use Rattle.psy_judge.specs.Owners.{Owner}
+use Rattle.psy_flow.specs.Owners.{Owner}
 use Rattle.psy_judge.specs.Highest.{AreFound, AreSmall, IsCourse}
 use Rattle.psy_judge.proofs.RowsTaken.{AreClosedTo}
 use Rattle.psy_judge.proofs.heights.pass.Given as goal

@@ -3,9 +3,9 @@ use Rattle.std.proofs.Common.{◌≡◌, Bool, List, Some, get_or, sym, ap, subs
 use Rattle.std.specs.Prelude.{slice_get}
 use Rattle.std.proofs.lemmas.Option.{slice_get-get_or}
 use Rattle.psy_code.specs.declared.instr.Instr.{Instr}
+use Rattle.psy_flow.specs.Heights.{IsBalanced}
 use Rattle.psy_judge.specs.declared.heights.Top.{Top}
 use Rattle.psy_judge.specs.Deciding.{balanced_by}
-use Rattle.psy_judge.specs.Heights.{IsBalanced}
 use Rattle.psy_judge.specs.Highest.{top_at}
 use Rattle.psy_judge.specs.Judged.{Judges}
 use Rattle.psy_judge.proofs.CallsJudged.{balanced_tells, top_is}

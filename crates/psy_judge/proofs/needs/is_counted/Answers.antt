@@ -3,9 +3,9 @@ use Rattle.std.proofs.Common.{◌≡◌, ℕ, Bool, get_or, subst, ◌∙◌, in
 use Rattle.std.proofs.lemmas.Bool.{cases_lt}
 use Rattle.std.proofs.lemmas.List.{get_or_default}
 use Rattle.std.proofs.lemmas.List.Elements.{Contains-get_or}
-use Rattle.psy_judge.specs.Heights.{IsBalanced}
+use Rattle.psy_flow.specs.Heights.{IsBalanced}
+use Rattle.psy_flow.specs.Owners.{Function}
 use Rattle.psy_judge.specs.Judged.{Judges}
-use Rattle.psy_judge.specs.Owners.{Function}
 use Rattle.psy_judge.proofs.CallsJudged.{counted_all}
 use Rattle.psy_judge.proofs.needs.is_counted.Goals as goal
 

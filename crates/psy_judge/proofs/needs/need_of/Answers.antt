@@ -1,7 +1,7 @@
 -- What is left of the proof of `needs::need_of`.
 use Rattle.std.proofs.Common.{Bool, subst}
+use Rattle.psy_flow.specs.Needs.{IsCounted}
 use Rattle.psy_judge.specs.Judged.{Judges}
-use Rattle.psy_judge.specs.Needs.{IsCounted}
 use Rattle.psy_judge.proofs.NeedsGathered.{need_is}
 use Rattle.psy_judge.proofs.needs.need_of.Goals as goal
 

@@ -1,14 +1,14 @@
 -- What is left of the proof of `needs::with_place`.
-use Rattle.std.proofs.Common.{◌≡◌, ◌<◌, ◌+◌, ℕ, List, Some, get_or, length, sym, ap, subst, ◌∙◌, inl, inr, arith}
+use Rattle.std.proofs.Common.{◌≡◌, ◌<◌, ◌+◌, ◌^◌, ℕ, List, Some, get_or, length, sym, ap, subst, ◌∙◌, inl, inr, arith}
 use Rattle.std.specs.Prelude.{max, slice_get}
 use Rattle.std.proofs.lemmas.Option.{slice_get-get_or}
 use Rattle.psy_code.specs.declared.instr.Instr.{Instr}
+use Rattle.psy_flow.specs.Heights.{shifts}
+use Rattle.psy_flow.specs.Owners.{Function, IsReached}
 use Rattle.psy_judge.specs.declared.heights.Top.{Top}
 use Rattle.psy_judge.specs.Deciding.{called}
 use Rattle.psy_judge.specs.Gathering.{IsGathered, call_used, held_with}
-use Rattle.psy_judge.specs.Heights.{shifts}
 use Rattle.psy_judge.specs.Highest.{IsSmall, shifts_of, top_at}
-use Rattle.psy_judge.specs.Owners.{Function, IsReached}
 use Rattle.psy_judge.proofs.CallsJudged.{need_few, top_is}
 use Rattle.psy_judge.proofs.NeedsGathered.{gathered_at}
 use Rattle.psy_judge.proofs.RowsTaken.{step_few}
@@ -52,6 +52,6 @@ returns c places at e gathered =
     let within : spot < length code.instrs = omega (arith, c.requires.place, e) in
     let base = gathered_at code number c.requires.number needs c.requires.needs c.requires.counted places at c.args.need gathered i (subst (λ p. slice_get code.instrs p ≡ Some i) e here)
     (subst (IsReached code (Function number)) e c.requires.reached) on (subst (λ p. shifts_of on ≡ shifts code p i) e c.steps_at-on.ensures) (top_at row spot)
-    (top_is code (Function number) row spot c.requires.tops within) (small_more (length code.instrs) 262144 (top_at row spot) c.requires.sized.instrs (c.requires.small spot)) in
+    (top_is code (Function number) row spot c.requires.tops within) (small_more (length code.instrs) (2 ^ 32) (top_at row spot) (omega (arith, c.requires.sized.instrs)) (c.requires.small spot)) in
     subst (λ m. IsGathered code number places (at + 1) (record { held = c.held_with-held.result; used = m })) (sym used)
     (subst (λ h. IsGathered code number places (at + 1) (record { held = h; used = max c.args.need.used (call_used needs (called i)) })) (sym held) base)

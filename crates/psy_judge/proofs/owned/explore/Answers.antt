@@ -9,4 +9,4 @@ use Rattle.psy_judge.proofs.owned.explore.Goals as goal
 pub returns-clause-explored : goal.returns-clause-explored
 returns-clause-explored c =
     let owner = owner_of c.args.whose in
-    explored_of c.args.code.now owner c.args.starts.now c.in_ok-places.places c.settle.new.row c.requires.starts (subst (λ (is : List Instr). ArePassedFrom is c.args.starts.now c.in_ok-places.places) c.as_slice.ensures c.in_ok-places.ensures.places) (c.settle.ensures.tops owner c.requires.starts) c.settle.ensures.count c.settle.ensures.small
+    explored_of c.args.code.now owner c.args.starts.now c.in_ok-places.places c.settle.new.row c.requires.starts (subst (λ (is : List Instr). ArePassedFrom is c.args.starts.now c.in_ok-places.places) c.as_slice.ensures c.in_ok-places.ensures.places) (c.in_ok-settle.ensures.tops owner c.requires.starts) c.in_ok-settle.ensures.count c.in_ok-settle.ensures.small

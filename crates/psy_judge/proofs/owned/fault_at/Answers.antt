@@ -1,8 +1,8 @@
 -- What is left of the proof of `owned::fault_at`.
 use Rattle.std.proofs.Common.{false, get_or, length, refl, sym, subst}
+use Rattle.psy_flow.specs.Heights.{IsHeight}
 use Rattle.psy_judge.specs.declared.heights.Top.{Top}
 use Rattle.psy_judge.specs.Deciding.{owner_of}
-use Rattle.psy_judge.specs.Heights.{IsHeight}
 use Rattle.psy_judge.specs.Highest.{IsSmall}
 use Rattle.psy_judge.specs.Judged.{IsLeast}
 use Rattle.psy_judge.specs.Judging.{IsEarlier, IsTop, KeepsFor}

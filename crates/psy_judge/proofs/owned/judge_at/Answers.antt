@@ -3,10 +3,10 @@ use Rattle.std.proofs.Common.{◌≡◌, List, Some, get_or, length, sym, ap, su
 use Rattle.std.specs.Prelude.{◌&&◌, slice_get}
 use Rattle.std.proofs.lemmas.Option.{slice_get-get_or}
 use Rattle.psy_code.specs.declared.instr.Instr.{Instr}
+use Rattle.psy_flow.specs.Needs.{cells_of}
 use Rattle.psy_judge.specs.declared.walked.Onward.{Onward}
 use Rattle.psy_judge.specs.Deciding.{framed_by, owner_of, stays_by, used_by}
 use Rattle.psy_judge.specs.Judged.{IsFirst}
-use Rattle.psy_judge.specs.Needs.{cells_of}
 use Rattle.psy_judge.specs.Judging.{IsEarlier, KeepsFor}
 use Rattle.psy_judge.specs.Walked.{onward_of}
 use Rattle.psy_judge.proofs.OwnersJudged.{first_same, place_first}

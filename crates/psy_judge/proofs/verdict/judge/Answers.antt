@@ -1,7 +1,7 @@
 -- What is left of the proof of `verdict::judge`.
 use Rattle.std.proofs.Common.{subst}
+use Rattle.psy_flow.specs.Verified.{Keeps}
 use Rattle.psy_judge.specs.Judged.{IsLeast}
-use Rattle.psy_judge.specs.Verified.{Keeps}
 use Rattle.psy_judge.proofs.Ruled.{no_fault}
 use Rattle.psy_judge.proofs.WholeJudged.{least_fault_is, none_verified}
 use Rattle.psy_judge.proofs.verdict.judge.Goals as goal

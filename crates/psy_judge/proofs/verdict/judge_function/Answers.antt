@@ -2,8 +2,8 @@
 use Rattle.std.proofs.Common.{◌≡◌, ◌⊎◌, ◌<◌, ℕ, List, false, true, length, get_or, sym, subst}
 use Rattle.std.specs.Prelude.{◌↔◌}
 use Rattle.std.specs.List.{Contains}
+use Rattle.psy_flow.specs.Owners.{Function}
 use Rattle.psy_judge.specs.Judging.{AreReached}
-use Rattle.psy_judge.specs.Owners.{Function}
 use Rattle.psy_judge.proofs.TakenPlaces.{taken_function}
 use Rattle.psy_judge.proofs.verdict.judge_function.Goals as goal
 

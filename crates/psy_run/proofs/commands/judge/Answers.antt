@@ -3,7 +3,7 @@ use Rattle.std.proofs.Common.{refl, subst, []}
 use Rattle.std.specs.Prelude.{map, string_bytes, option_copied}
 use Rattle.psy_run.specs.declared.refusal.Refusal.TheVariants.{Words}
 use Rattle.psy_run.specs.Answer.{making, trying}
-use Rattle.psy_run.specs.Asked.{Asks, asked_by, Run, Check, Graph, Make, Trial}
+use Rattle.psy_run.specs.Asked.{Asks, asked_by, Run, Check, Graph, Make, Trial, Build, Exec, Audit}
 use Rattle.psy_run.specs.Outcome.{halts_refused}
 use Rattle.psy_run.specs.Services.{service_of}
 use Rattle.psy_run.specs.Steps.{asking}
@@ -59,3 +59,21 @@ returns-in-Some-Make-clause-unread g c = unfailed_last _ _ _ refl
 
 pub returns-in-Some-Trial-clause-unread : goal.returns-in-Some-Trial-clause-unread
 returns-in-Some-Trial-clause-unread g c = unfailed_last _ _ _ refl
+
+pub returns-in-Some-Build-clause-ok : goal.returns-in-Some-Build-clause-ok
+returns-in-Some-Build-clause-ok g c = gives_last (asking _) _ (Build c.in-Some-Build.program.now) service_of _ (subst (λ read. Asks (map string_bytes c.args.words.now) (asked_by read)) c.in-Some-Build.field-0-is c.in-Some-Build.ensures) c.build.ensures.ok
+
+pub returns-in-Some-Build-clause-err : goal.returns-in-Some-Build-clause-err
+returns-in-Some-Build-clause-err g c = halts_last (asking _) _ _ _ _ (Build c.in-Some-Build.program.now) _ (subst (λ read. Asks (map string_bytes c.args.words.now) (asked_by read)) c.in-Some-Build.field-0-is c.in-Some-Build.ensures) c.build.ensures.err
+
+pub returns-in-Some-Exec-clause-ok : goal.returns-in-Some-Exec-clause-ok
+returns-in-Some-Exec-clause-ok g c = gives_last (asking _) _ (Exec c.in-Some-Exec.image.now c.in-Some-Exec.until (option_copied c.in-Some-Exec.inputs) (option_copied c.in-Some-Exec.script)) service_of _ (subst (λ read. Asks (map string_bytes c.args.words.now) (asked_by read)) c.in-Some-Exec.field-0-is c.in-Some-Exec.ensures) c.exec.ensures.ok
+
+pub returns-in-Some-Exec-clause-err : goal.returns-in-Some-Exec-clause-err
+returns-in-Some-Exec-clause-err g c = halts_last (asking _) _ _ _ _ (Exec c.in-Some-Exec.image.now c.in-Some-Exec.until (option_copied c.in-Some-Exec.inputs) (option_copied c.in-Some-Exec.script)) _ (subst (λ read. Asks (map string_bytes c.args.words.now) (asked_by read)) c.in-Some-Exec.field-0-is c.in-Some-Exec.ensures) c.exec.ensures.err
+
+pub returns-in-Some-Audit-clause-ok : goal.returns-in-Some-Audit-clause-ok
+returns-in-Some-Audit-clause-ok g c = gives_last (asking _) _ (Audit c.in-Some-Audit.program.now c.in-Some-Audit.until c.in-Some-Audit.trace.now (option_copied c.in-Some-Audit.script)) service_of _ (subst (λ read. Asks (map string_bytes c.args.words.now) (asked_by read)) c.in-Some-Audit.field-0-is c.in-Some-Audit.ensures) c.audit.ensures.ok
+
+pub returns-in-Some-Audit-clause-err : goal.returns-in-Some-Audit-clause-err
+returns-in-Some-Audit-clause-err g c = halts_last (asking _) _ _ _ _ (Audit c.in-Some-Audit.program.now c.in-Some-Audit.until c.in-Some-Audit.trace.now (option_copied c.in-Some-Audit.script)) _ (subst (λ read. Asks (map string_bytes c.args.words.now) (asked_by read)) c.in-Some-Audit.field-0-is c.in-Some-Audit.ensures) c.audit.ensures.err

@@ -14,4 +14,7 @@ returns c words files = answering_bounded (record {
   script = c.lawful.ensures.script;
   keeps = c.bounds.ensures;
   met = c.supplies.ensures;
+  sound = λ bytes it spelled. (let its = c.images.ensures bytes it spelled in (its.bare, its.inits));
+  fits = c.fits_by.ensures;
+  keeps_by = c.bounds_by.ensures;
 }) words files

@@ -1,11 +1,12 @@
 -- What is left of the proof of `laws::one_answer`.
 use Rattle.psy_run.proofs.DecidedAnswers.{Answers-same, Answers-some, refused-one}
+use Rattle.psy_run.proofs.DecidedImages.{ImagesDecide}
 use Rattle.psy_run.proofs.DecidedSteps.{PlansDecide}
 use Rattle.psy_run.proofs.laws.one_answer.Goals as goal
-use Rattle.psy_run.proofs.laws.one_answer.Goals.{After-short}
+use Rattle.psy_run.proofs.laws.one_answer.Goals.{After-ranges-2}
 
 -- What the laws say of the plan's steps
-decide : After-short → PlansDecide
+decide : After-ranges-2 → PlansDecide
 decide c = record {
   of_text = c.programs.ensures;
   short = c.short.ensures;
@@ -15,11 +16,27 @@ decide c = record {
   supply = c.one_plan.ensures.supply;
 }
 
+-- And of those on images
+images : After-ranges-2 → ImagesDecide
+images c = record {
+  image = c.one_image.ensures.image;
+  place = c.one_image.ensures.place;
+  image_not_bad = c.one_image.ensures.not_both;
+  bare = λ bytes it spelled. (c.images.ensures bytes it spelled).bare;
+  fault = c.rules.ensures.one;
+  verified_not = c.rules.ensures.none;
+  ways = c.one_list.ensures.code;
+  known = λ unit code ways bare checked. c.fits.ensures.lists unit code ways bare checked.verified checked.parts checked.ways;
+  supply = c.by_ways.ensures;
+  text = c.one_text.ensures;
+  ranges = c.ranges-2.ensures;
+}
+
 pub returns-clause-same : goal.returns-clause-same
-returns-clause-same c words files = Answers-same (decide (goal.at.returns-clause-same c).After-short) files words
+returns-clause-same c words files = let laws = (goal.at.returns-clause-same c).After-ranges-2 in Answers-same (decide laws) (images laws) files words
 
 pub returns-clause-some : goal.returns-clause-some
-returns-clause-some c words files = Answers-some (decide (goal.at.returns-clause-some c).After-short) files words
+returns-clause-some c words files = let laws = (goal.at.returns-clause-some c).After-ranges-2 in Answers-some (decide laws) (images laws) files words
 
 pub returns-clause-refused : goal.returns-clause-refused
-returns-clause-refused c = refused-one (decide (goal.at.returns-clause-refused c).After-short)
+returns-clause-refused c = refused-one (decide (goal.at.returns-clause-refused c).After-ranges-2)

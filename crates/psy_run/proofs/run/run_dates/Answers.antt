@@ -4,7 +4,7 @@ use Rattle.psy_door.specs.Growth.{Grew, GrewByFront}
 use Rattle.psy_kernel.specs.Progress.{after_date, lines_told, system}
 use Rattle.psy_kernel.specs.Texts.{lines_of, text_of}
 use Rattle.psy_run.specs.Cuts.{IsCutAt}
-use Rattle.psy_run.specs.Runs.{all_given}
+use Rattle.psy_kernel.specs.Runs.{all_given}
 use Rattle.psy_run.proofs.CutLemmas.{cut_at_date}
 use Rattle.psy_run.proofs.LogLemmas.{Grew-date, GrewByFront-date, cycles-after, lines_told-after, progress-parts, stage-date, whole-booted}
 use Rattle.psy_run.proofs.run.run_dates.Goals as goal

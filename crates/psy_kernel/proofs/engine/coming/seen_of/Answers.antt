@@ -5,7 +5,7 @@ use Rattle.psy_code.specs.Views.{past_of}
 use Rattle.psy_dates.specs.Plans.{opened_of}
 use Rattle.psy_history.specs.Actions.{publishing}
 use Rattle.psy_kernel.specs.Acting.{IsLookIn}
-use Rattle.psy_kernel.specs.Units.{slot_of}
+use Rattle.psy_history.specs.Rings.{slot_of}
 use Rattle.psy_kernel.proofs.engine.coming.seen_of.Goals as goal
 
 pub see-requires-clause-known : goal.see-requires-clause-known

@@ -1,0 +1,21 @@
+-- The lemmas of this crate, by subject.
+mod Built
+mod Deepest
+mod Emitted
+mod Equations
+mod FirstValues
+mod Fit
+mod Gets
+mod Lengths
+mod Lists
+mod LoopCounts
+mod Narrow
+mod Programs
+mod Ranges
+mod Sizes
+mod SpelledAgents
+mod SpelledCode
+mod SpelledImage
+mod SpelledParts
+mod TextNames
+mod UnitCode

@@ -1,0 +1,23 @@
+-- The lemmas of this crate, by subject.
+mod Rows
+mod Stretches
+mod Laws
+mod Turns
+mod Acts
+mod Homes
+mod LinesGiven
+mod Longer
+mod Runs
+mod Texts
+mod Steps
+mod Published
+mod Large
+mod Beginning
+mod DateActs
+mod DateDone
+mod LastActs
+mod UnitLooks
+mod LookSplits
+mod OwnLooks
+mod UnitKept
+mod UnitDone

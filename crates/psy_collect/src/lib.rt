@@ -1,0 +1,16 @@
+//! The trace of a kernel's run: which actions started, what was published, what each processor's cycles went to, and what was looked at.
+//! It may know kernels and the lines of traces; nothing of files and commands.
+#![tactic(auto)]
+
+mod dates;
+mod ends;
+mod fault;
+mod kept;
+mod lines;
+mod run;
+mod stretch;
+mod text;
+mod units;
+
+pub use fault::CollectFault;
+pub use run::collect;
