@@ -1,4 +1,4 @@
-"""How many places each ring and each queue needs: from all dates at which actions may start, over some periods of all clocks."""
+"""How many places each ring and each queue needs: from the points and phases at which actions may start, found by all starts over some periods of all clocks."""
 from functools import lru_cache
 from math import gcd
 
@@ -113,20 +113,33 @@ def steps(program, agent):
     return found
 
 
+def cycle_of(agent):
+    """So many ticks later an action from one point is due and ends alike: by the clocks that the agent's `advance`s name, and no others."""
+    return common(point.clock.period for point in agent.points[1:])
+
+
+@lru_cache(None)
+def dues(program, agent):
+    """Each point and phase in the agent's cycle at which an action may start, with the ticks up to its deadline."""
+    cycle = cycle_of(agent)
+    return {(point, date % cycle): min(ends.values()) - date for (point, date), ends in steps(program, agent).items()}
+
+
 def ring(program, name):
-    """The depth, and the most dates between the start of an action that may look and its deadline."""
+    """The depth, and the most dates between a start and the deadline of an action that may look; at each date of its phase one may start."""
     variable, most = program.variables[name], 0
     for agent in program.agents.values():
-        for (point, date), ends in steps(program, agent).items():
+        cycle = cycle_of(agent)
+        for (point, phase), due in dues(program, agent).items():
             if name in looks_from(agent, point):
-                most = max(most, variable.clock.count(min(ends.values()) - 1) - variable.clock.count(date))
+                starts = range(phase, phase + common((cycle, variable.clock.period)), cycle)
+                most = max([most] + [variable.clock.count(start + due - 1) - variable.clock.count(start) for start in starts])
     return variable.depth + most
 
 
 def spread(program, agent, stream, window):
     """The most sends of a path whose actions end within so many dates."""
-    cycle = common(point.clock.period for point in agent.points[1:])
-    edges = {}
+    cycle, edges = cycle_of(agent), {}
     for (point, date), ends in steps(program, agent).items():
         sends = sends_from(agent, point, stream)
         edges.setdefault((point, date % cycle), set()).update((to, end % cycle, end - date, sends.get(to, 0)) for to, end in ends.items())

@@ -1,5 +1,6 @@
 -- The lemmas of this crate, by subject.
 mod Gaps
 mod Splits
+mod Starts
 mod Stretches
 pub mod lemmas

@@ -1,5 +1,5 @@
 -- What the cycles of an agent's action go to: the stalls before each instruction, then the instruction itself.
-use Rattle.std.specs.Prelude.{ℕ, zero, suc, ◌+◌, ◌-◌, ◌^◌, ◌<◌, ◌≤◌, ◌⊎◌, ◌≡◌, min, ◌==◌, ◌&&◌, nat_lt, if◌then◌else◌, List}
+use Rattle.std.specs.Prelude.{ℕ, zero, suc, ◌+◌, ◌-◌, ◌^◌, ◌<◌, ◌≤◌, ◌⊎◌, ◌≡◌, min, ◌==◌, ◌&&◌, nat_lt, if◌then◌else◌, List, [], ◌∷◌}
 use Rattle.std.specs.List.{AllPairs, sum_by}
 use Rattle.psy_budget.specs.declared.charge.Stall.{Stall}
 use Rattle.psy_budget.specs.declared.charge.Tick.{Tick}
@@ -50,6 +50,15 @@ after_tick c tick.Spent = c
 -- The next action begins. The count of actions stays at 2^64 - 1.
 abbrev pub after_start : Charged → ℕ → Charged
 after_start c budget = record c { started = min (c.started + 1) (2 ^ 64 - 1); budget = budget; consumed = 0; paid = 0 }
+
+-- The action of this number begins.
+abbrev pub after_start_at : Charged → ℕ → ℕ → Charged
+after_start_at c number budget = record c { started = number + 1; budget = budget; consumed = 0; paid = 0 }
+
+-- Actions with these budgets begin, one behind the other.
+abbrev pub after_starts : Charged → List ℕ → Charged
+after_starts c [] = c
+after_starts c (budget ∷ budgets) = after_starts (after_start c budget) budgets
 
 -- The charge after so many cycles
 abbrev pub ticked : Charged → ℕ → Charged

@@ -1,7 +1,7 @@
 //! What an agent's actions are charged: a cycle for each instruction, and the stalls of a script.
-ghost use Rattle.std.specs.Prelude.{ℕ, ◌≡◌, ◌<◌, ◌≤◌, ◌+◌, ◌==◌};
+ghost use Rattle.std.specs.Prelude.{ℕ, ◌≡◌, ◌<◌, ◌≤◌, ◌+◌, ◌-◌, ◌^◌, ◌==◌};
 ghost use Rattle.psy_budget.specs.declared.charge.Tick.TheVariants as tick;
-ghost use Rattle.psy_budget.specs.Charges.{AllGoTo, IsStretch, StallsRise, stalled, tick_of, ticked, after_tick, after_start};
+ghost use Rattle.psy_budget.specs.Charges.{AllGoTo, IsStretch, StallsRise, stalled, tick_of, ticked, after_tick, after_start, after_start_at};
 ghost use Rattle.psy_budget.specs.Standing.{AreSplit};
 
 use psy_base::Items;
@@ -145,13 +145,20 @@ impl Charge {
     pub fn start(&mut self, budget: u32)
         ensures { self.new ≡ after_start self.old budget }
     {
-        self.started = self.started.saturating_add(1);
+        self.start_at(self.started.min(u64::MAX - 1), budget);
+    }
+
+    /// The action of this number begins, with its budget in cycles: at once what as many starts and one more leave where none was before.
+    pub fn start_at(&mut self, number: u64, budget: u32)
+        requires { number < 2 ^ 64 - 1 }
+        ensures { self.new ≡ after_start_at self.old number budget }
+    {
+        self.started = number + 1;
         self.budget = budget;
         self.consumed = 0;
         self.paid = 0;
-        let action = self.started - 1;
         let stalls = self.stalls.as_slice();
-        let next = next_stall(stalls, earlier(stalls, action), action, 0);
+        let next = next_stall(stalls, earlier(stalls, number), number, 0);
         self.passed = next.passed;
         self.left = next.cycles;
     }

@@ -40,12 +40,12 @@ ends_not phase.Ended at other = absurd (other refl)
 ends_not phase.Stopped at other = refl
 ends_not phase.Silent at other = refl
 
-acts_not : phase.Acting ≡ phase.Ended → ⊥
+pub acts_not : phase.Acting ≡ phase.Ended → ⊥
 acts_not e = cc
 
 module _ (s : System) (lawful : IsLawful s) (date : ℕ) (turns : List (Option Turn)) (agent : ℕ) where
   -- an action that starts at a date commits nothing by it
-  same_by : (variable : ℕ) → committed_in s variable date (history s (suc date) agent) ≡ committed_in s variable date (history s date agent)
+  pub same_by : (variable : ℕ) → committed_in s variable date (history s (suc date) agent) ≡ committed_in s variable date (history s date agent)
   same_by variable = from (next_of s agent (history s date agent)) refl
     where
       from : (next : Option Next) → next_of s agent (history s date agent) ≡ next → committed_in s variable date (history s (suc date) agent) ≡ committed_in s variable date (history s date agent)

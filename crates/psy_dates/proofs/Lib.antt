@@ -6,14 +6,17 @@ mod Committing
 mod Dates
 mod Endings
 mod Entering
+mod Filled
 mod Histories
 mod Kept
 mod Lists
 mod MoversThen
 mod Opened
+mod OwnValues
 mod Phases
 mod Publications
 mod QueuesThen
+mod Resumed
 mod Seats
 mod StreamLaws
 mod StreamsThen

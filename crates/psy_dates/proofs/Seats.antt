@@ -29,7 +29,7 @@ module _ (s : System) (lawful : IsLawful s) (date : ℕ) (turns : List (Option T
       let is = is_regular s lawful (suc date) agent r (history s date agent) (starts s date agent n next at) in
       of_started date turns r (omega (arith, is.due, at)) is.granted is.charged (unstarted n.number new)
 
-  begins : (n : Next) → next_of s agent (history s date agent) ≡ Some n → n.start ≡ date → first_number s agent + length (history s date agent) ≤ n.number → SeatStands date turns (history s (suc date) agent) (begun_at (timing s agent) date n.number n.point)
+  pub begins : (n : Next) → next_of s agent (history s date agent) ≡ Some n → n.start ≡ date → first_number s agent + length (history s date agent) ≤ n.number → SeatStands date turns (history s (suc date) agent) (begun_at (timing s agent) date n.number n.point)
   begins n next at new =
       let r = action_of s (history s date) agent n in
       let seat = begun_at (timing s agent) date n.number n.point in
@@ -45,7 +45,7 @@ module _ (s : System) (lawful : IsLawful s) (date : ℕ) (turns : List (Option T
 
   -- ---- an agent without actions
 
-  first : (seat : Seat) (n : Next) → s.opening.starts agent ≡ Some n → n.number ≡ 0 → n.point ≡ 0 → n.start ≡ first_date (timing s agent) → history s date agent ≡ [] → seat.phase ≡ phase.Waiting → SeatStands date turns (history s (suc date) agent) (seat_then (timing s agent) date seat)
+  pub first : (seat : Seat) (n : Next) → s.opening.starts agent ≡ Some n → n.number ≡ 0 → n.point ≡ 0 → n.start ≡ first_date (timing s agent) → history s date agent ≡ [] → seat.phase ≡ phase.Waiting → SeatStands date turns (history s (suc date) agent) (seat_then (timing s agent) date seat)
   first seat n starts number point start none waits =
       let its = timing s agent in
       let next : next_of s agent (history s date agent) ≡ Some n = ap (next_of s agent) none ∙ starts in

@@ -6,6 +6,7 @@ use Rattle.psy_code.specs.Views.{found_in}
 use Rattle.psy_history.specs.Actions.{Next, Opening, first_action}
 use Rattle.psy_history.specs.Executors.{Carried, by_code, copy_in}
 use Rattle.psy_meaning.specs.Alike.{first_copies}
+use Rattle.psy_meaning.specs.Timing.{Timing}
 use Rattle.psy_tree.specs.Parts.{variable_at}
 use Rattle.psy_dates.specs.declared.opening.AgentOpening.{AgentOpening}
 use Rattle.psy_dates.specs.declared.opening.Begun.{Begun}
@@ -14,6 +15,10 @@ use Rattle.psy_dates.specs.declared.opening.Opening.{Opening as State}
 use Rattle.psy_dates.specs.declared.opening.StreamOpening.{StreamOpening}
 use Rattle.psy_dates.specs.declared.opening.VarOpening.{VarOpening}
 use Rattle.psy_dates.specs.declared.plan.Plan.{Plan}
+use Rattle.psy_dates.specs.declared.seat.Phase.TheVariants as phase
+use Rattle.psy_dates.specs.declared.seat.Seat.{Seat}
+use Rattle.psy_dates.specs.Messages.{nowhere}
+use Rattle.psy_dates.specs.Moves.{begun_at, seat_then}
 use Rattle.psy_dates.specs.Plans.{whole_of}
 
 -- ---- an agent
@@ -51,6 +56,16 @@ is_silent_by (Some begun) = is_none begun.action
 abbrev pub committed_by : Plan → ℕ → ℕ → Option Begun → ℤ
 committed_by plan agent variable None = (variable_at plan.unit variable).init
 committed_by plan agent variable (Some begun) = copy_in (carried_with plan agent [] begun.copies) variable
+
+-- Its seat behind a date where it starts this action there: it is silent where it starts none.
+abbrev pub seat_of_action : Timing → ℕ → Option NextAction → Seat
+seat_of_action timing date None = record nowhere { phase = phase.Silent; deadline = date }
+seat_of_action timing date (Some action) = begun_at timing date action.number action.point
+
+-- Its seat behind a date: one that hasn't begun waits, or begins there
+abbrev pub seat_behind : Timing → ℕ → Option Begun → Seat
+seat_behind timing date None = seat_then timing date nowhere
+seat_behind timing date (Some begun) = seat_of_action timing date begun.action
 
 -- ---- a state, by number
 

@@ -46,6 +46,20 @@ fn first_dates(alloc: Global, clocks: &[Clock]) -> Result<Vec<u64>, Memory>
     )
 }
 
+/// By clock its first date behind this one.
+fn dates_behind(alloc: Global, clocks: &[Clock], date: u64) -> Result<Vec<u64>, Memory>
+    requires clocks { All IsClock clocks.now }
+    requires early { date < 2 ^ 40 }
+    ensures count { IfOk result (λ nexts. length nexts.items ≡ length clocks.now) }
+    ensures nexts { IfOk result (λ nexts. AreNext clocks.now (date + 1) nexts.items) }
+{
+    let mut nexts = Vec::with_capacity(alloc, clocks.len())?;
+    'clocks: for clock in 0..clocks.len() {
+        nexts.push(clocks[clock].from_date(date + 1, 0))?;
+    }
+    Ok(nexts)
+}
+
 /// The first date of a clock behind this one, by its first one from this one on.
 fn next_behind(clock: Clock, date: u64, next: u64) -> u64
     requires clock { IsClock clock }
@@ -99,6 +113,19 @@ impl Calendar {
     {
         Ok(Calendar {
             nexts: first_dates(alloc, clocks)?,
+            least: 0,
+        })
+    }
+
+    /// By clock its first date behind this one. The only error is want of memory.
+    pub fn behind(alloc: Global, clocks: &[Clock], date: u64) -> Result<Calendar, Memory>
+        requires clocks { All IsClock clocks.now }
+        requires early { date < 2 ^ 40 }
+        ensures count { IfOk result (λ calendar. length calendar ≡ length clocks.now) }
+        ensures nexts { IfOk result (λ calendar. AreNext clocks.now (date + 1) calendar) }
+    {
+        Ok(Calendar {
+            nexts: dates_behind(alloc, clocks, date)?,
             least: 0,
         })
     }

@@ -14,6 +14,7 @@ mod moves;
 mod opening;
 mod outbox;
 mod plan;
+mod resume;
 mod rings;
 mod roll;
 mod seat;

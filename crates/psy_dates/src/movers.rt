@@ -1,6 +1,6 @@
 //! Who moves at a date: the agents whose seats change there.
 
-ghost use Rattle.std.specs.Prelude.{◌≡◌, ◌≢◌, ℕ, ◌<◌, ◌≤◌, ◌^◌, IfOk, Some, [], false, length, slice_get};
+ghost use Rattle.std.specs.Prelude.{◌≡◌, ◌≢◌, ℕ, ◌<◌, ◌≤◌, ◌^◌, Bool, IfOk, Some, [], false, length, slice_get};
 ghost use Rattle.psy_meaning.specs.Units.{IsBare};
 ghost use Rattle.psy_dates.specs.declared.seat.Seat.{Seat as Place};
 ghost use Rattle.psy_dates.specs.declared.seat.Phase.TheVariants as phase;
@@ -75,6 +75,30 @@ fn name_all(plan: &Plan, date: u64, seats: &[Seat], moved: &mut Roll) -> u64
     least
 }
 
+/// Names so many agents, each of them.
+fn name_each(agents: u32, moved: &mut Roll)
+    requires none { moved.old.agents ≡ [] }
+    requires room { agents ≤ moved.old.size }
+    ensures size { moved.new.size ≡ moved.old.size }
+    ensures names { (test : ℕ → Bool) → NamesAll test agents 0 moved.new.agents }
+{
+    'agents: for agent in 0..agents {
+        moved.add(agent);
+    }
+}
+
+/// Whether an agent is silent.
+fn any_silent(seats: &[Seat]) -> bool
+    ensures { result ≡ false → (agent : ℕ) (seat : Place) → slice_get seats.now agent ≡ Some seat → seat.phase ≢ phase.Silent }
+{
+    'agents: for agent in 0..seats.len() {
+        if seats[agent].phase == Phase::Silent {
+            return true;
+        }
+    }
+    false
+}
+
 impl Movers {
     /// Nobody has moved yet. The only error is want of memory; no other call takes any.
     pub fn new(alloc: Global, agents: u32) -> Result<Movers, Memory>
@@ -84,6 +108,26 @@ impl Movers {
             moved: Roll::new(alloc, agents)?,
             least: 0,
             stopped: false,
+        })
+    }
+
+    /// The movers of a date that is done, where these are the seats behind it: each agent counts as one that moved, and any may
+    /// move at the next date. The only error is want of memory.
+    pub fn behind(alloc: Global, seats: &[Seat]) -> Result<Movers, Memory>
+        requires few { length seats.now < 2 ^ 32 }
+        ensures room { IfOk result (λ movers. movers.moved.size ≡ length seats.now) }
+        ensures names { (test : ℕ → Bool) → IfOk result (λ movers. NamesAll test (length seats.now) 0 movers.moved.agents) }
+        ensures least { IfOk result (λ movers. movers.least ≡ 0) }
+        ensures stopped { IfOk result (λ movers. movers.stopped ≡ false
+            → (agent : ℕ) (seat : Place) → slice_get seats.now agent ≡ Some seat → seat.phase ≢ phase.Silent) }
+    {
+        let agents = seats.len() as u32;
+        let mut moved = Roll::new(alloc, agents)?;
+        name_each(agents, &mut moved);
+        Ok(Movers {
+            moved,
+            least: 0,
+            stopped: any_silent(seats),
         })
     }
 

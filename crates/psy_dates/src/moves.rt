@@ -14,7 +14,14 @@ use crate::plan::Plan;
 use crate::seat::{Phase, Seat};
 
 /// The seat of an agent whose action of this number starts at a date, from a point.
-fn begun(plan: &Plan, calendar: &Calendar, agent: usize, date: u64, number: u64, point: u32) -> Seat
+pub fn begun(
+    plan: &Plan,
+    calendar: &Calendar,
+    agent: usize,
+    date: u64,
+    number: u64,
+    point: u32,
+) -> Seat
     requires bare { IsBare plan.now.unit }
     requires agent { agent < length plan.now.unit.agents }
     requires nexts { length plan.now.nexts ≡ length plan.now.unit.agents }
@@ -36,7 +43,7 @@ fn begun(plan: &Plan, calendar: &Calendar, agent: usize, date: u64, number: u64,
 
 /// What becomes of an agent's seat at a date. A stopped agent falls silent at its deadline; one whose deadline was before is silent
 /// already, so `<=` is as good as `==`.
-fn moved(plan: &Plan, calendar: &Calendar, agent: usize, date: u64, seat: Seat) -> Seat
+pub fn moved(plan: &Plan, calendar: &Calendar, agent: usize, date: u64, seat: Seat) -> Seat
     requires bare { IsBare plan.now.unit }
     requires agent { agent < length plan.now.unit.agents }
     requires nexts { length plan.now.nexts ≡ length plan.now.unit.agents }

@@ -5,6 +5,7 @@ ghost use Rattle.psy_base.specs.declared.limits.TheConstants.{QUEUE, RING};
 ghost use Rattle.psy_dates.specs.declared.seat.Phase.TheVariants as phase;
 ghost use Rattle.psy_budget.specs.declared.charge.Stall.{Stall};
 ghost use Rattle.psy_history.specs.Compiled.{AreInputs};
+ghost use Rattle.psy_dates.specs.Messages.{nowhere};
 ghost use Rattle.psy_dates.specs.Plans.{IsPlan, system_of};
 ghost use Rattle.psy_dates.specs.Standing.{SharedStands};
 
@@ -47,7 +48,7 @@ pub struct Shared {
 }
 
 /// By variable, its first value.
-fn first_values(alloc: Global, variables: &[VarDecl]) -> Result<Vec<i32>, Memory>
+pub fn first_values(alloc: Global, variables: &[VarDecl]) -> Result<Vec<i32>, Memory>
     ensures { IfOk result (λ values. values.items ≡ map (λ v. v.init) variables.now) }
 {
     Ok(variables.iter().map(|v| v.init).collect(alloc)?)
@@ -83,7 +84,7 @@ fn first_queues(alloc: Global, sizes: &[u32]) -> Result<Vec<Queue>, Memory>
 }
 
 /// By agent, an empty outbox of its size.
-fn first_outboxes(alloc: Global, sizes: &[u32]) -> Result<Vec<Outbox>, Memory>
+pub fn first_outboxes(alloc: Global, sizes: &[u32]) -> Result<Vec<Outbox>, Memory>
     ensures count { IfOk result (λ outboxes. length outboxes.items ≡ length sizes.now) }
     ensures empty { IfOk result (λ outboxes. (agent : ℕ) → agent < length sizes.now
         → slice_get outboxes.items agent ≡ Some (record { size = get_or sizes.now agent 0; sends = [] })) }
@@ -96,17 +97,17 @@ fn first_outboxes(alloc: Global, sizes: &[u32]) -> Result<Vec<Outbox>, Memory>
 }
 
 /// For each of so many streams, that nothing was taken.
-fn first_takes(alloc: Global, streams: usize) -> Result<Vec<u32>, Memory>
+pub fn first_takes(alloc: Global, streams: usize) -> Result<Vec<u32>, Memory>
     ensures { IfOk result (λ taken. (length taken.items ≡ streams) × All (λ n. n ≡ 0) taken.items) }
 {
     Ok(vec![in alloc; 0; streams]?)
 }
 
-/// A seat for each of so many agents, none of which has begun.
-fn first_seats(alloc: Global, agents: usize) -> Result<Vec<Seat>, Memory>
-    ensures { IfOk result (λ seats. (length seats.items ≡ agents) × All (λ seat. seat.phase ≡ phase.Waiting) seats.items) }
+/// The seat of an agent that hasn't begun.
+pub fn waiting() -> Seat
+    ensures { result ≡ nowhere }
 {
-    let seat = Seat {
+    Seat {
         phase: Phase::Waiting,
         number: 0,
         point: 0,
@@ -115,7 +116,14 @@ fn first_seats(alloc: Global, agents: usize) -> Result<Vec<Seat>, Memory>
         end: 0,
         reached: 0,
         trap: None,
-    };
+    }
+}
+
+/// A seat for each of so many agents, none of which has begun.
+fn first_seats(alloc: Global, agents: usize) -> Result<Vec<Seat>, Memory>
+    ensures { IfOk result (λ seats. (length seats.items ≡ agents) × All (λ seat. seat.phase ≡ phase.Waiting) seats.items) }
+{
+    let seat = waiting();
     Ok(vec![in alloc; seat; agents]?)
 }
 

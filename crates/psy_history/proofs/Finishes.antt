@@ -53,7 +53,7 @@ module _ (s : System) (order : ℕ → List ℕ) (lawful : IsLawful s) (dates ag
   abbrev IsOver : ℕ → Type 0
   IsOver cycles = is_pending (turns_in s order cycles) r ≡ false
 
-  another : (cycles : ℕ) → IsOver cycles → is_of r.agent r.number (next_turn s order cycles) ≡ false
+  pub another : (cycles : ℕ) → IsOver cycles → is_of r.agent r.number (next_turn s order cycles) ≡ false
   another cycles finished = elim (cases_Bool (is_of r.agent r.number (next_turn s order cycles))) [
     | inl t ↦ (
         let fewer = next_is_pending s order cycles dates agent r there t in
@@ -63,7 +63,7 @@ module _ (s : System) (order : ℕ → List ℕ) (lawful : IsLawful s) (dates ag
     | inr f ↦ f
   ]
 
-  finish_kept : (cycles more : ℕ) → cycles ≤ more → IsOver cycles → IsOver more × (finish r.agent r.number (turns_in s order more) ≡ finish r.agent r.number (turns_in s order cycles))
+  pub finish_kept : (cycles more : ℕ) → cycles ≤ more → IsOver cycles → IsOver more × (finish r.agent r.number (turns_in s order more) ≡ finish r.agent r.number (turns_in s order cycles))
   finish_kept cycles more later finished =
       kept_on (λ n. IsOver n × (finish r.agent r.number (turns_in s order n) ≡ finish r.agent r.number (turns_in s order cycles)))
       (λ n h. let other = another n h.0 in (rw other h.0, rw other h.1)) cycles more later (finished, refl)

@@ -52,6 +52,13 @@ grown_by s h date agent actions (Some n) = elim (cases_Bool (n.start == date)) [
 pub grown : (s : System) (date agent : ℕ) → IsGrown s date agent
 grown s date agent = grown_by s (history s date) date agent (history s date agent) (next_of s agent (history s date agent))
 
+-- Where the next one's date is this, it starts.
+pub started : (s : System) (date agent : ℕ) (n : Next) → next_of s agent (history s date agent) ≡ Some n → n.start ≡ date → history s (suc date) agent ≡ action_of s (history s date) agent n ∷ history s date agent
+started s date agent n next at = elim (grown s date agent) [
+  | inl (same, other) ↦ absurd (other n next at)
+  | inr (m, next', at', more) ↦ more ∙ ap (λ k. action_of s (history s date) agent k ∷ history s date agent) (same_Some m n (sym next' ∙ next))
+]
+
 -- ---- many dates
 
 -- What holds of no actions, and is kept by each date, holds at each date.

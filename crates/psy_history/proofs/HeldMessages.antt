@@ -107,7 +107,7 @@ module _ (s : System) (streams : HasStreams s) (laws : AreClockLaws) where
         omega (arith, start, visible)
 
     -- No action that ended by a date took what isn't visible before it.
-    untaken_late : (m : Message) → date ≤ m.visible → is_untaken stream date actions m ≡ true
+    pub untaken_late : (m : Message) → date ≤ m.visible → is_untaken stream date actions m ≡ true
     untaken_late m late = untaken_new stream date actions m (λ r there done x seen.
         let (point, end, is, early) = ended_by date r done in
         let regular = All-contains (IsRegular s (stream_of s stream).receiver) actions r (streams.lawful.actions (suc date) (stream_of s stream).receiver).each there in

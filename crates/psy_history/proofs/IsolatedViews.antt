@@ -33,7 +33,7 @@ use Rattle.psy_history.proofs.StatedHistories.{IsOfAgent}
 -- ---- lists of what is made of the first numbers
 
 -- They are the same where each element is,
-map_below : {X : Type 0} (f g : ℕ → X) (n : ℕ) (d : X) → ((i : ℕ) → i < n → f i ≡ g i) → map f (range_with_len 0 n) ≡ map g (range_with_len 0 n)
+pub map_below : {X : Type 0} (f g : ℕ → X) (n : ℕ) (d : X) → ((i : ℕ) → i < n → f i ≡ g i) → map f (range_with_len 0 n) ≡ map g (range_with_len 0 n)
 map_below f g n d same = sym (fill_by_all f (map g (range_with_len 0 n)) n d (length-map-range_with_len g 0 n) (λ i l. get_or-map-range_with_len g 0 n i i d l (omega arith) ∙ sym (same i l)))
 
 -- And so is an element alone.

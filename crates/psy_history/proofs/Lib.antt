@@ -26,9 +26,14 @@ mod KeptCycles
 mod KeptDates
 mod LastActions
 mod LateLooks
+mod LeftAgents
+mod LeftFigures
+mod LeftMessages
+mod LeftStates
 mod LikeActions
 mod LikeHistories
 mod LikeLines
+mod LikeOpenings
 mod LikeReaches
 mod LikeSchedules
 mod LikeViews
@@ -39,6 +44,7 @@ mod MessagePlaces
 mod MessagesOfSends
 mod NextStarts
 mod Numbers
+mod OldActions
 mod OneAction
 mod OpenedBuffers
 mod OpenedRuns
@@ -55,6 +61,13 @@ mod QueueLooks
 mod QueueSteps
 mod Reached
 mod Reaches
+mod ResumedFigures
+mod ResumedHistories
+mod ResumedLines
+mod ResumedQueues
+mod ResumedStreams
+mod ResumedTurns
+mod ResumedViews
 mod RingReaches
 mod RingValues
 mod RunActions
@@ -65,6 +78,7 @@ mod RunStreams
 mod RunsWithin
 mod SameActions
 mod SamePhases
+mod SameElements
 mod Seeing
 mod SendEdges
 mod SendWeights

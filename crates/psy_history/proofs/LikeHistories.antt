@@ -1,20 +1,18 @@
 -- The history of a program's code is alike that of its statements: date by date, one action an agent.
 use Rattle.std.proofs.Common.{◌≡◌, ℕ, zero, suc, ◌<◌, inl, inr, List, Option, Some, None, refl, sym, ap, ap₂, ◌∙◌, subst, arith}
 use Rattle.std.proofs.lemmas.Bool.{cases_Bool, lt-ltb}
-use Rattle.std.proofs.lemmas.Option.{slice_get_within}
-use Rattle.std.specs.Prelude.{ℤ, ◌==◌, if◌then◌else◌, slice_get}
+use Rattle.std.specs.Prelude.{ℤ, ◌==◌, if◌then◌else◌}
 use Rattle.psy_base.specs.declared.message.Message.{Message}
 use Rattle.psy_budget.specs.declared.charge.Stall.{Stall}
 use Rattle.psy_code.specs.declared.code.Code.{Code}
 use Rattle.psy_code.specs.Views.{View}
-use Rattle.psy_tree.specs.declared.unit.AgentDecl.{AgentDecl}
 use Rattle.psy_tree.specs.declared.unit.Unit.{Unit as Whole}
-use Rattle.psy_history.specs.Actions.{Action, History, Next, System, Overran, charge_of, next_by, next_of, timing, verdict_by, verdict_of}
-use Rattle.psy_history.specs.Executors.{Acted, Carried, Fate}
+use Rattle.psy_history.specs.Actions.{Action, History, Next, Opening, System, Overran, charge_of, next_by, next_of, timing, verdict_by, verdict_of}
+use Rattle.psy_history.specs.Executors.{Acted, Fate}
 use Rattle.psy_history.specs.History.{action_of, executed, history, recorded, with_start}
-use Rattle.psy_meaning.specs.Timing.{Timing, budget_at, first_date}
+use Rattle.psy_meaning.specs.Timing.{Timing, budget_at}
 use Rattle.psy_history.specs.Visible.{seen_at, view_of}
-use Rattle.psy_history.specs.Compiled.{IsCompiled, coded, stated}
+use Rattle.psy_history.specs.Compiled.{IsCompiled, coded_behind, stated_behind}
 use Rattle.psy_history.specs.Likeness.{AreLike, IsLike}
 use Rattle.psy_history.specs.Runs.{IsRun}
 use Rattle.psy_meaning.specs.KnownWays.{OfText}
@@ -25,17 +23,23 @@ use Rattle.psy_history.proofs.OneAction.{ArePast, AreWithin}
 use Rattle.psy_history.proofs.RunActions.{AreRunLaws, point_known}
 use Rattle.psy_history.proofs.RunHistories.{next_ready, next_sees}
 use Rattle.psy_history.proofs.Starts.{acted_alike}
-use Rattle.psy_history.proofs.Stores.{AreStoreLaws, IsReady, first_carried}
+use Rattle.psy_history.proofs.Stores.{AreStoreLaws, IsReady}
 
 overran : (timing : Timing) (start budget charge : ℕ) (fate : Fate) → budget < charge → verdict_of timing start budget charge fate ≡ Overran
 overran timing start budget charge fate h = ap (λ b. if b then Overran else verdict_by timing start fate) (lt-ltb budget charge h)
 
-module _ (unit : Whole) (code : Code) (nexts : List (List (List ℕ))) (stalls : ℕ → List Stall) (inputs : List (List ℤ)) where
+module _ (unit : Whole) (code : Code) (nexts : List (List (List ℕ))) (stalls : ℕ → List Stall) (inputs : List (List ℤ)) (opening : Opening) where
   abbrev of_code : System
-  of_code = coded unit code nexts stalls inputs
+  of_code = coded_behind unit code nexts stalls inputs opening
 
   abbrev of_stmts : System
-  of_stmts = stated unit nexts stalls inputs
+  of_stmts = stated_behind unit nexts stalls inputs opening
+
+  -- ---- where the next action starts
+
+  pub next_like : (agent : ℕ) (rs qs : List Action) → AreLike rs qs → next_of of_code agent rs ≡ next_of of_stmts agent qs
+  next_like agent = by_pairs (λ rs qs. next_of of_code agent rs ≡ next_of of_stmts agent qs) refl (λ r q rs qs one others rest.
+      same_by (λ (x : Action). next_by x.number x.after x.verdict) r q one (λ o p. ap (next_by r.number r.after) o ∙ sym (ap (next_by q.number q.after) p)))
 
   -- ---- what is recorded
 
@@ -62,18 +66,6 @@ module _ (unit : Whole) (code : Code) (nexts : List (List (List ℕ))) (stalls :
   recorded_like agent n view seen a b (inr past) = recorded_past agent n view seen a b past
 
   module _ (laws : AreStoreLaws unit code) (compiled : IsCompiled unit code nexts) (runs : AreRunLaws code) (run : IsRun of_code (OfText unit) code) where
-    -- ---- where the next action starts
-
-    starts_like : (agent : ℕ) (its : Option AgentDecl) → slice_get unit.agents agent ≡ its → of_code.opening.starts agent ≡ of_stmts.opening.starts agent
-    starts_like agent None is = rw is refl
-    starts_like agent (Some its) is =
-        let first = first_carried unit code nexts laws compiled agent (slice_get_within unit.agents agent its is) in
-        rw is (ap (λ (carried : Carried). Some (record { number = 0; point = 0; start = first_date (timing of_stmts agent); carried = carried })) first)
-
-    next_like : (agent : ℕ) (rs qs : List Action) → AreLike rs qs → next_of of_code agent rs ≡ next_of of_stmts agent qs
-    next_like agent = by_pairs (λ rs qs. next_of of_code agent rs ≡ next_of of_stmts agent qs) (starts_like agent (slice_get unit.agents agent) refl) (λ r q rs qs one others rest.
-        same_by (λ (x : Action). next_by x.number x.after x.verdict) r q one (λ o p. ap (next_by r.number r.after) o ∙ sym (ap (next_by q.number q.after) p)))
-
     -- ---- one date
 
     module _ (date : ℕ) (like : (agent : ℕ) → AreLike (history of_code date agent) (history of_stmts date agent)) (agent : ℕ) where
@@ -98,7 +90,7 @@ module _ (unit : Whole) (code : Code) (nexts : List (List (List ℕ))) (stalls :
           let budget = budget_at (timing of_stmts agent) n.point in
           let both = recorded_like agent n view seen (of_code.executor.act agent n.point n.carried view budget) (of_stmts.executor.act agent n.point n.carried view budget) within in
           let same : executed of_stmts agent n view seen ≡ action_of of_stmts k agent n =
-          ap₂ (λ (v : View) (m : ℕ → List Message). executed of_stmts agent n v m) (view_same unit code nexts stalls inputs h k like agent n.start) (seen_same unit code nexts stalls inputs h k like n.start) in
+          ap₂ (λ (v : View) (m : ℕ → List Message). executed of_stmts agent n v m) (view_same unit code nexts stalls inputs opening h k like agent n.start) (seen_same unit code nexts stalls inputs opening h k like n.start) in
           subst (IsLike (action_of of_code h agent n)) same both
 
       started_like : (o : Option Next) → next_of of_code agent (h agent) ≡ o → AreLike (with_start of_code h date agent (h agent) o) (with_start of_stmts k date agent (k agent) o)

@@ -8,12 +8,12 @@ use Rattle.psy_budget.specs.Charges.{cycle_of}
 use Rattle.psy_code.specs.declared.code.Code.{Code}
 use Rattle.psy_code.specs.Views.{Looked}
 use Rattle.psy_tree.specs.declared.unit.Unit.{Unit as Whole}
-use Rattle.psy_history.specs.Actions.{Action, History, System}
+use Rattle.psy_history.specs.Actions.{Action, History, Opening, System}
 use Rattle.psy_history.specs.History.{history}
 use Rattle.psy_history.specs.Schedule.{Turn, cycle_of_unit, units, work}
-use Rattle.psy_history.specs.Summary.{age_in, ages_of, reach}
+use Rattle.psy_history.specs.Summary.{age_in, ages_of, numbers_in, reach}
 use Rattle.psy_base.specs.Extremes.{greatest_of}
-use Rattle.psy_history.specs.Compiled.{coded, stated}
+use Rattle.psy_history.specs.Compiled.{coded_behind, stated_behind}
 use Rattle.psy_history.specs.Likeness.{AreLike, IsLike, looks_within}
 use Rattle.psy_history.specs.Processors.{processor_at}
 use Rattle.psy_history.specs.Scheduled.{turns_by}
@@ -57,12 +57,12 @@ module _ (s : System) (done : ℕ → List (Option Turn)) (variable : ℕ) where
 
 -- ---- the two histories
 
-module _ (unit : Whole) (code : Code) (nexts : List (List (List ℕ))) (stalls : ℕ → List Stall) (inputs : List (List ℤ)) where
+module _ (unit : Whole) (code : Code) (nexts : List (List (List ℕ))) (stalls : ℕ → List Stall) (inputs : List (List ℤ)) (opening : Opening) where
   abbrev of_code : System
-  of_code = coded unit code nexts stalls inputs
+  of_code = coded_behind unit code nexts stalls inputs opening
 
   abbrev of_stmts : System
-  of_stmts = stated unit nexts stalls inputs
+  of_stmts = stated_behind unit nexts stalls inputs opening
 
   age_same : (r q : Action) (look : Looked) (cycle : Option ℕ) → r.start ≡ q.start → age_in of_code r look cycle ≡ age_in of_stmts q look cycle
   age_same r q look None e = refl
@@ -85,7 +85,7 @@ module _ (unit : Whole) (code : Code) (nexts : List (List (List ℕ))) (stalls :
   pub reach_same : (h : History) (order : ℕ → List ℕ) (cycles dates variable : ℕ) → ((agent : ℕ) → AreLike (h agent) (history of_stmts dates agent)) → reach of_code (turns_by of_stmts order cycles) h variable ≡ reach of_stmts (turns_by of_stmts order cycles) (history of_stmts dates) variable
   reach_same h order cycles dates variable like =
       let done = turns_by of_stmts order cycles in
-      ap greatest_of (flat_map_same (λ agent. flat_map (ages_of of_code done variable) (h agent)) (λ agent. flat_map (ages_of of_stmts done variable) (history of_stmts dates agent))
+      ap (λ ages. greatest_of (numbers_in (opening.reach variable) ++ ages)) (flat_map_same (λ agent. flat_map (ages_of of_code done variable) (h agent)) (λ agent. flat_map (ages_of of_stmts done variable) (history of_stmts dates agent))
       (λ agent. flat_map_like (ages_of of_code done variable) (ages_of of_stmts done variable) (h agent) (history of_stmts dates agent)
       (λ r q there l. ages_same done variable r q (given_within of_stmts (serving of_stmts order (processor_at unit q.agent)) dates cycles agent q there) l) (like agent))
       (range_with_len 0 (length unit.agents)))

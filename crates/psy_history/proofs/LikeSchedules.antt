@@ -1,5 +1,5 @@
 -- Histories that are alike have the same schedule: of each action it depends on the agent, the number, the deadline and the work.
-use Rattle.std.proofs.Common.{◌≡◌, ℕ, zero, suc, ◌+◌, ◌-◌, ◌*◌, ◌/◌, Bool, true, false, List, [], ◌∷◌, Option, Some, None, refl, ap, ap₂, ◌∙◌}
+use Rattle.std.proofs.Common.{◌≡◌, ℕ, zero, suc, ◌+◌, ◌-◌, ◌*◌, ◌/◌, Bool, true, false, List, [], ◌∷◌, map, Option, Some, None, refl, ap, ap₂, ◌∙◌}
 use Rattle.std.specs.List.{filter}
 use Rattle.std.specs.Prelude.{if◌then◌else◌, nat_le, nat_lt, ⊤}
 use Rattle.psy_history.specs.Actions.{Action, History}
@@ -62,5 +62,8 @@ due_like until rs qs like = filter_like (λ (r : Action). nat_le r.deadline unti
 slack_of_same : (quantum : ℕ) (done : List (Option Turn)) (r q : Action) → IsLike r q → slack_of quantum done r ≡ slack_of quantum done q
 slack_of_same quantum done r q h = ap (λ deadline. deadline * quantum - finish r.agent r.number done) h.deadline ∙ ap₂ (λ agent number. q.deadline * quantum - finish agent number done) h.agent h.number
 
+pub slacks_same : (quantum : ℕ) (done : List (Option Turn)) (rs qs : List Action) → AreLike rs qs → map (slack_of quantum done) rs ≡ map (slack_of quantum done) qs
+slacks_same quantum done rs qs like = map_like (slack_of quantum done) (slack_of quantum done) (slack_of_same quantum done) rs qs like
+
 pub slack_same : (quantum : ℕ) (done : List (Option Turn)) (rs qs : List Action) → AreLike rs qs → slack quantum done rs ≡ slack quantum done qs
-slack_same quantum done rs qs like = ap least_of (map_like (slack_of quantum done) (slack_of quantum done) (slack_of_same quantum done) rs qs like)
+slack_same quantum done rs qs like = ap least_of (slacks_same quantum done rs qs like)

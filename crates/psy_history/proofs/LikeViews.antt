@@ -1,5 +1,5 @@
 -- Histories that are alike show the same: what variables publish, the messages of streams, and what an action sees.
-use Rattle.std.proofs.Common.{◌≡◌, ℕ, ◌+◌, ◌-◌, ◌&&◌, not, List, [], ◌∷◌, length, Option, Some, None, refl, sym, ap, ◌∙◌}
+use Rattle.std.proofs.Common.{◌≡◌, ℕ, zero, suc, ◌+◌, ◌-◌, ◌&&◌, not, List, [], ◌∷◌, ◌++◌, length, Option, Some, None, refl, sym, ap, ◌∙◌}
 use Rattle.std.proofs.Math.Path.{fun_ext}
 use Rattle.std.specs.List.{filter, flat_map, list_any, range_with_len}
 use Rattle.std.specs.Prelude.{ℤ, ◌==◌, if◌then◌else◌, map, nat_le, nat_lt}
@@ -9,9 +9,9 @@ use Rattle.psy_clock.specs.Dates.{count, date}
 use Rattle.psy_code.specs.declared.code.Code.{Code}
 use Rattle.psy_code.specs.declared.look.Sent.{Sent}
 use Rattle.psy_tree.specs.declared.unit.Unit.{Unit as Whole}
-use Rattle.psy_history.specs.Actions.{Action, History, System, Verdict, Done, is_done_by, publishing, stream_of, variable_of}
-use Rattle.psy_history.specs.Visible.{commit, committed_in, in_order, is_in_view, is_untaken, is_same, message_of, messages, messages_by, messages_from, past, published, published_by, seen_at, sent_to, taken, values_for, view_of}
-use Rattle.psy_history.specs.Compiled.{coded, stated}
+use Rattle.psy_history.specs.Actions.{Action, History, Opening, System, Verdict, Done, is_done_by, publishing, stream_of, variable_of}
+use Rattle.psy_history.specs.Visible.{commit, committed_in, in_order, is_in_view, is_untaken, is_same, message_of, messages, messages_by, messages_from, past, published, published_before, published_behind, published_by, seen_at, sent_to, taken, values_for, view_of}
+use Rattle.psy_history.specs.Compiled.{coded_behind, stated_behind}
 use Rattle.psy_history.specs.Likeness.{AreLike}
 use Rattle.psy_history.proofs.LikeActions.{by_pairs, flat_map_like, flat_map_same, list_all_like, same_by}
 
@@ -22,14 +22,14 @@ left_same stream by rs qs m like =
     let test = λ (r : Action). not (is_done_by by r.verdict && list_any (is_same m) (taken r stream)) in
     list_all_like test test (λ r q h. same_by test r q h (λ o p. ap (λ v. not (is_done_by by v && list_any (is_same m) (taken r stream))) o ∙ sym (ap (λ v. not (is_done_by by v && list_any (is_same m) (taken q stream))) p))) rs qs like
 
-module _ (unit : Whole) (code : Code) (nexts : List (List (List ℕ))) (stalls : ℕ → List Stall) (inputs : List (List ℤ)) where
+module _ (unit : Whole) (code : Code) (nexts : List (List (List ℕ))) (stalls : ℕ → List Stall) (inputs : List (List ℤ)) (opening : Opening) where
   abbrev of_code : System
-  of_code = coded unit code nexts stalls inputs
+  of_code = coded_behind unit code nexts stalls inputs opening
 
   abbrev of_stmts : System
-  of_stmts = stated unit nexts stalls inputs
+  of_stmts = stated_behind unit nexts stalls inputs opening
 
-  committed_same : (variable by : ℕ) (rs qs : List Action) → AreLike rs qs → committed_in of_code variable by rs ≡ committed_in of_stmts variable by qs
+  pub committed_same : (variable by : ℕ) (rs qs : List Action) → AreLike rs qs → committed_in of_code variable by rs ≡ committed_in of_stmts variable by qs
   committed_same variable by = by_pairs (λ rs qs. committed_in of_code variable by rs ≡ committed_in of_stmts variable by qs) refl (λ r q rs qs one others rest.
       let earlier = committed_in of_stmts variable by qs in
       ap (λ value. commit variable by r.after value r.verdict) rest
@@ -48,24 +48,29 @@ module _ (unit : Whole) (code : Code) (nexts : List (List (List ℕ))) (stalls :
     published_by_same variable date None = refl
     published_by_same variable date (Some owner) = committed_same variable date (h owner) (k owner) (like owner)
 
-    pub published_same : (variable date : ℕ) → published of_code h variable date ≡ published of_stmts k variable date
-    published_same variable date = published_by_same variable date (variable_of of_stmts variable).owner
+    published_behind_same : (dates variable date : ℕ) → published_behind dates of_code h variable date ≡ published_behind dates of_stmts k variable date
+    published_behind_same zero variable date = published_by_same variable date (variable_of of_stmts variable).owner
+    published_behind_same (suc last) variable date =
+        ap (λ value. if nat_le date last then published_before of_stmts last variable date else value) (published_by_same variable date (variable_of of_stmts variable).owner)
 
-    past_same : (variable start back : ℕ) → past of_code h variable start back ≡ past of_stmts k variable start back
+    pub published_same : (variable date : ℕ) → published of_code h variable date ≡ published of_stmts k variable date
+    published_same variable date = published_behind_same opening.dates variable date
+
+    pub past_same : (variable start back : ℕ) → past of_code h variable start back ≡ past of_stmts k variable start back
     past_same variable start back =
         let clock = publishing of_stmts variable in
         ap (λ value. if nat_lt back (count clock start) then value else (variable_of of_stmts variable).init) (published_same variable (date clock (count clock start - 1 - back)))
 
     sent_same : (stream : ℕ) → sent_to of_code h stream ≡ sent_to of_stmts k stream
     sent_same stream =
-        flat_map_same (λ agent. flat_map (λ (r : Action). messages_by of_code stream r.agent r.deeds.sends r.verdict) (h agent)) (λ agent. flat_map (λ (r : Action). messages_by of_stmts stream r.agent r.deeds.sends r.verdict) (k agent))
+        ap (λ sent. opening.messages stream ++ sent) (flat_map_same (λ agent. flat_map (λ (r : Action). messages_by of_code stream r.agent r.deeds.sends r.verdict) (h agent)) (λ agent. flat_map (λ (r : Action). messages_by of_stmts stream r.agent r.deeds.sends r.verdict) (k agent))
         (λ agent.
         flat_map_like (λ (r : Action). messages_by of_code stream r.agent r.deeds.sends r.verdict) (λ (r : Action). messages_by of_stmts stream r.agent r.deeds.sends r.verdict) (h agent) (k agent)
         (λ r q there l.
         messages_by_same stream r.agent r.deeds.sends r.verdict
         ∙ same_by (λ (x : Action). messages_by of_stmts stream x.agent x.deeds.sends x.verdict) r q l (λ o p. ap (messages_by of_stmts stream r.agent r.deeds.sends) o ∙ sym (ap (messages_by of_stmts stream q.agent q.deeds.sends) p)))
         (like agent))
-        (range_with_len 0 (length unit.agents))
+        (range_with_len 0 (length unit.agents)))
 
     pub messages_same : (stream : ℕ) → messages of_code h stream ≡ messages of_stmts k stream
     messages_same stream = ap in_order (sent_same stream)

@@ -16,6 +16,14 @@ number_below s dates agent (p ∷ before) r (was, were) c = elim (front_or_behin
   | inr there ↦ omega (arith, number_below s dates agent before r were there)
 ]
 
+-- and no lower than that of the first
+number_from : (s : System) (dates agent : ℕ) (actions : List Action) (r : Action) → WereStarted s dates agent actions → Contains actions r → first_number s agent ≤ r.number
+number_from s dates agent [] r were c = absurd (contains_none r c)
+number_from s dates agent (p ∷ before) r (was, were) c = elim (front_or_behind p before r c) [
+  | inl e ↦ subst (λ (q : Action). first_number s agent ≤ q.number) e (omega (arith, was.number))
+  | inr there ↦ number_from s dates agent before r were there
+]
+
 agent_is : (s : System) (dates agent : ℕ) (actions : List Action) (r : Action) → WereStarted s dates agent actions → Contains actions r → r.agent ≡ agent
 agent_is s dates agent [] r were c = absurd (contains_none r c)
 agent_is s dates agent (p ∷ before) r (was, were) c = elim (front_or_behind p before r c) [
@@ -64,6 +72,9 @@ module _ (s : System) where
 
   pub number_of : (dates agent : ℕ) (r : Action) → Contains (history s dates agent) r → r.number < first_number s agent + length (history s dates agent)
   number_of dates agent r c = number_below s dates agent (history s dates agent) r (were_started dates agent) c
+
+  pub number_since : (dates agent : ℕ) (r : Action) → Contains (history s dates agent) r → first_number s agent ≤ r.number
+  number_since dates agent r c = number_from s dates agent (history s dates agent) r (were_started dates agent) c
 
   -- of whatever dates, an agent has one action of a number
   pub one_of_number : (dates others agent : ℕ) (r q : Action) → Contains (history s dates agent) r → Contains (history s others agent) q → r.number ≡ q.number → r ≡ q

@@ -34,7 +34,7 @@ put_in_front : (f g : ℕ → ℤ) (x : ℤ) → g 0 ≡ x → ((k : ℕ) → g 
 put_in_front f g x first each zero = refl
 put_in_front f g x first each (suc n) = ap₂ (λ y ys. y ∷ ys) first (one_further f g each 0 (0 + 1) n (omega arith) ∙ sym (take-map-range_with_len f 0 (suc n) n (omega arith)))
 
-place_in : {X : Type 0} (f : ℕ → X) (n i : ℕ) → i < n → slice_get (map f (range_with_len 0 n)) i ≡ Some (f i)
+pub place_in : {X : Type 0} (f : ℕ → X) (n i : ℕ) → i < n → slice_get (map f (range_with_len 0 n)) i ≡ Some (f i)
 place_in f n i l =
     let at : slice_get (range_with_len 0 n) i ≡ Some i = slice_get-get_or (range_with_len 0 n) i 0 (omega (arith, l, length-range_with_len 0 n)) ∙ ap Some (get_or-range_with_len 0 n i 0 l ∙ omega arith) in
     slice_get-map f (range_with_len 0 n) i ∙ ap (option_map f) at

@@ -93,6 +93,9 @@ module _ (s : System) (ways : Ways) (code : Code) (laws : AreRunLaws code) (run 
   pub next_sees : (date agent start : ℕ) → IsViewOf s.unit agent (view_of s (history s date) agent start (seen_at s (history s date) start))
   next_sees date agent start = seeing date (keeps date) agent start
 
+  pub all_leave : (dates agent : ℕ) → All (LeavesFit s.unit) (history s dates agent)
+  all_leave dates agent = (keeps dates agent).leave
+
   pub all_own : (dates agent : ℕ) → All (IsOwn s ways code agent) (history s dates agent)
   all_own dates agent = (keeps dates agent).own
 

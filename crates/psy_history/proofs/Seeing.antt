@@ -70,7 +70,7 @@ module _ (s : System) where
   commit_fits variable by carried earlier (verdict.Trapped kind) before copies = before
   commit_fits variable by carried earlier verdict.Overran before copies = before
 
-  committed_fits : (variable by : ℕ) (actions : List Action) → Fits (s.opening.committed variable) → All Leaves actions → Fits (committed_in s variable by actions)
+  pub committed_fits : (variable by : ℕ) (actions : List Action) → Fits (s.opening.committed variable) → All Leaves actions → Fits (committed_in s variable by actions)
   committed_fits variable by [] first all = first
   committed_fits variable by (r ∷ before) first all =
       commit_fits variable by r.after (committed_in s variable by before) r.verdict (committed_fits variable by before first (All-tail Leaves r before all)) (All-head Leaves r before all).copies
@@ -133,7 +133,7 @@ module _ (s : System) where
           (λ early. get_or_holds Fits (s.opening.published variable) (count (publishing s variable) last - count (publishing s variable) date) (variable_of s variable).init (init_fits variable) (before variable))
           (λ late. by_owner variable date (variable_of s variable).owner)
 
-      past_fits : (variable start back : ℕ) → Fits (past s h variable start back)
+      pub past_fits : (variable start back : ℕ) → Fits (past s h variable start back)
       past_fits variable start back =
           let clock = publishing s variable in
           let at : ℕ = date clock (count clock start - 1 - back) in

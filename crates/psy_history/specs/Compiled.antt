@@ -5,7 +5,7 @@ use Rattle.psy_base.specs.declared.edge.Edge.{Edge}
 use Rattle.psy_budget.specs.declared.charge.Stall.{Stall}
 use Rattle.psy_tree.specs.declared.unit.Unit.{Unit as Whole}
 use Rattle.psy_code.specs.declared.code.Code.{Code}
-use Rattle.psy_history.specs.Actions.{System, from_start, timing}
+use Rattle.psy_history.specs.Actions.{Opening, System, from_start, timing}
 use Rattle.psy_meaning.specs.Alike.{ActsAlike, AllFit}
 use Rattle.psy_history.specs.Executors.{by_code, by_statements}
 use Rattle.psy_meaning.specs.Flow.{AreAllNexts}
@@ -32,6 +32,14 @@ coded unit code nexts stalls inputs = from_start unit nexts (by_code code) stall
 -- Its statements from date 0 on
 abbrev pub stated : Whole → List (List (List ℕ)) → (ℕ → List Stall) → List (List ℤ) → System
 stated unit nexts stalls inputs = from_start unit nexts (by_statements unit) stalls inputs
+
+-- The code of a program behind an opening
+abbrev pub coded_behind : Whole → Code → List (List (List ℕ)) → (ℕ → List Stall) → List (List ℤ) → Opening → System
+coded_behind unit code nexts stalls inputs opening = record (coded unit code nexts stalls inputs) { opening = opening }
+
+-- Its statements behind the same one
+abbrev pub stated_behind : Whole → List (List (List ℕ)) → (ℕ → List Stall) → List (List ℤ) → Opening → System
+stated_behind unit nexts stalls inputs opening = record (stated unit nexts stalls inputs) { opening = opening }
 
 -- By agent, the edges of its action graph
 pub record AreEdgesOf (s : System) (graphs : List (List Edge)) : Type 0 where

@@ -12,6 +12,7 @@ pub mod Openings
 pub mod Processors
 pub mod Queues
 pub mod Regular
+pub mod Resuming
 pub mod Rings
 pub mod Runs
 pub mod Schedule

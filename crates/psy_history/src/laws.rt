@@ -1,7 +1,7 @@
 //! Laws of the dated history, each the contract of a function that does nothing.
 
-ghost use Rattle.std.specs.Prelude.{◌≡◌, ℕ, ◌+◌, ◌*◌, ◌/◌, ◌==◌, ◌<◌, ◌≤◌, if◌then◌else◌, List, [], ◌∷◌, Option, None, Some, ℤ, drop, filter, length};
-ghost use Rattle.std.specs.Prelude.{false, map, nat_le, slice_get, take, true, FitsSigned};
+ghost use Rattle.std.specs.Prelude.{◌≡◌, ℕ, suc, ◌+◌, ◌*◌, ◌/◌, ◌==◌, ◌<◌, ◌≤◌, if◌then◌else◌, List, [], ◌∷◌, ◌++◌, Option, None, Some, ℤ};
+ghost use Rattle.std.specs.Prelude.{drop, false, filter, length, map, nat_le, slice_get, take, true, FitsSigned};
 ghost use Rattle.std.specs.Int.{w32};
 ghost use Rattle.std.specs.List.{All, Contains, count_by};
 ghost use Rattle.psy_base.specs.declared.edge.Edge.{Edge};
@@ -19,7 +19,7 @@ ghost use Rattle.psy_tree.specs.declared.unit.StreamDecl.{StreamDecl};
 ghost use Rattle.psy_tree.specs.declared.unit.Unit.{Unit as Whole};
 ghost use Rattle.psy_tree.specs.Parts.{homes};
 ghost use Rattle.psy_tree.specs.declared.unit.VarDecl.{VarDecl};
-ghost use Rattle.psy_history.specs.Actions.{Action, Done, History, Opening, System, first_action, publishing};
+ghost use Rattle.psy_history.specs.Actions.{Action, Done, History, Opening, System, first_action, plain, publishing};
 ghost use Rattle.psy_meaning.specs.CodeWays.{agent_code_at};
 ghost use Rattle.psy_base.specs.Extremes.{IsGreatest};
 ghost use Rattle.psy_history.specs.History.{history};
@@ -27,10 +27,11 @@ ghost use Rattle.psy_history.specs.Lines.{events, is_date, publications, stops_o
 ghost use Rattle.psy_history.specs.Processors.{edges_for, processor_at, processors, served};
 ghost use Rattle.psy_history.specs.Schedule.{Turn, finish, turn_of, units, work};
 ghost use Rattle.psy_meaning.specs.Units.{IsBare, IsOfText};
-ghost use Rattle.psy_history.specs.Summary.{due_by, most_held, reach, slack};
+ghost use Rattle.psy_history.specs.Summary.{due_by, due_count, least_slack, most_held, reach, slack};
 ghost use Rattle.psy_history.specs.Visible.{messages, published};
 ghost use Rattle.psy_history.specs.Asked.{IsBoundedBy};
-ghost use Rattle.psy_history.specs.Compiled.{AreInputs, IsCompiled, coded, stated};
+ghost use Rattle.psy_history.specs.Compiled.{AreInputs, IsCompiled, coded, coded_behind, stated, stated_behind};
+ghost use Rattle.psy_history.specs.Executors.{by_code, by_statements};
 ghost use Rattle.psy_history.specs.Feeding.{AreSame, OverranAlike, Reaches};
 ghost use Rattle.psy_history.specs.Fitting.{FitsBy};
 ghost use Rattle.psy_history.specs.Likeness.{AreLike};
@@ -38,6 +39,7 @@ ghost use Rattle.psy_history.specs.Openings.{IsSound};
 ghost use Rattle.psy_history.specs.Queues.{entered, entering, queue_of, settled};
 ghost use Rattle.psy_history.specs.Regular.{IsLawful, Runs, begun_by, first_number};
 ghost use Rattle.psy_history.specs.Rings.{age_at, reach_with, ring_of};
+ghost use Rattle.psy_history.specs.Resuming.{IsQuiet, MayResume, MaySave, opening_at, resumed_at};
 ghost use Rattle.psy_history.specs.Runs.{IsRun};
 ghost use Rattle.psy_history.specs.Scheduled.{IsFinished, IsSupplied, gone_to, turns_by, turns_of};
 ghost use Rattle.psy_history.specs.Ways.{IsSentBy};
@@ -145,6 +147,54 @@ pub fn alike()
         (turns_by (coded unit code nexts stalls inputs) order cycles) (history (coded unit code nexts stalls inputs) dates) variable
         ≡ reach (stated unit nexts stalls inputs) (turns_by (stated unit nexts stalls inputs) order cycles)
         (history (stated unit nexts stalls inputs) dates) variable }
+{
+    openings();
+    alike_behind();
+}
+
+/// So it has behind any sound opening, with which its statements begin too: as a run does that is taken up again. Both have the same plain opening,
+/// and what both leave at a date of a whole run is the same.
+pub fn alike_behind()
+    ensures actions { (unit : Whole) (code : Code) (nexts : List (List (List ℕ))) (stalls : ℕ → List Stall) (inputs : List (List ℤ)) (opening : Opening)
+        → IsCompiled unit code nexts → AreInputs unit inputs → IsSound (coded_behind unit code nexts stalls inputs opening) (OfText unit) code
+        → (dates agent : ℕ) → AreLike (history (coded_behind unit code nexts stalls inputs opening) dates agent)
+        (history (stated_behind unit nexts stalls inputs opening) dates agent) }
+    ensures lines { (unit : Whole) (code : Code) (nexts : List (List (List ℕ))) (stalls : ℕ → List Stall) (inputs : List (List ℤ)) (opening : Opening)
+        → IsCompiled unit code nexts → AreInputs unit inputs → IsSound (coded_behind unit code nexts stalls inputs opening) (OfText unit) code
+        → (date : ℕ) → events (coded_behind unit code nexts stalls inputs opening) date ≡ events (stated_behind unit nexts stalls inputs opening) date }
+    ensures schedule { (unit : Whole) (code : Code) (nexts : List (List (List ℕ))) (stalls : ℕ → List Stall) (inputs : List (List ℤ)) (opening : Opening)
+        → IsCompiled unit code nexts → AreInputs unit inputs → IsSound (coded_behind unit code nexts stalls inputs opening) (OfText unit) code
+        → (order : ℕ → List ℕ) (cycles processor : ℕ) → turns_of (coded_behind unit code nexts stalls inputs opening) order cycles processor
+        ≡ turns_of (stated_behind unit nexts stalls inputs opening) order cycles processor }
+    ensures counts { (unit : Whole) (code : Code) (nexts : List (List (List ℕ))) (stalls : ℕ → List Stall) (inputs : List (List ℤ)) (opening : Opening)
+        → IsCompiled unit code nexts → AreInputs unit inputs → IsSound (coded_behind unit code nexts stalls inputs opening) (OfText unit) code
+        → (dates until agent : ℕ) → length (due_by until (history (coded_behind unit code nexts stalls inputs opening) dates agent))
+        ≡ length (due_by until (history (stated_behind unit nexts stalls inputs opening) dates agent)) }
+    ensures slacks { (unit : Whole) (code : Code) (nexts : List (List (List ℕ))) (stalls : ℕ → List Stall) (inputs : List (List ℤ)) (opening : Opening)
+        → IsCompiled unit code nexts → AreInputs unit inputs → IsSound (coded_behind unit code nexts stalls inputs opening) (OfText unit) code
+        → (order : ℕ → List ℕ) (dates cycles until agent : ℕ)
+        → slack unit.quantum (turns_by (coded_behind unit code nexts stalls inputs opening) order cycles agent)
+        (due_by until (history (coded_behind unit code nexts stalls inputs opening) dates agent))
+        ≡ slack unit.quantum (turns_by (stated_behind unit nexts stalls inputs opening) order cycles agent)
+        (due_by until (history (stated_behind unit nexts stalls inputs opening) dates agent)) }
+    ensures held { (unit : Whole) (code : Code) (nexts : List (List (List ℕ))) (stalls : ℕ → List Stall) (inputs : List (List ℤ)) (opening : Opening)
+        → IsCompiled unit code nexts → AreInputs unit inputs → IsSound (coded_behind unit code nexts stalls inputs opening) (OfText unit) code
+        → (until stream : ℕ) → most_held (coded_behind unit code nexts stalls inputs opening) until stream
+        ≡ most_held (stated_behind unit nexts stalls inputs opening) until stream }
+    ensures reaches { (unit : Whole) (code : Code) (nexts : List (List (List ℕ))) (stalls : ℕ → List Stall) (inputs : List (List ℤ)) (opening : Opening)
+        → IsCompiled unit code nexts → AreInputs unit inputs → IsSound (coded_behind unit code nexts stalls inputs opening) (OfText unit) code
+        → (order : ℕ → List ℕ) (dates cycles variable : ℕ) → reach (coded_behind unit code nexts stalls inputs opening)
+        (turns_by (coded_behind unit code nexts stalls inputs opening) order cycles)
+        (history (coded_behind unit code nexts stalls inputs opening) dates) variable
+        ≡ reach (stated_behind unit nexts stalls inputs opening) (turns_by (stated_behind unit nexts stalls inputs opening) order cycles)
+        (history (stated_behind unit nexts stalls inputs opening) dates) variable }
+    ensures plain { (unit : Whole) (code : Code) (nexts : List (List (List ℕ))) → IsCompiled unit code nexts
+        → plain unit nexts (by_code code) ≡ plain unit nexts (by_statements unit) }
+    ensures left { (unit : Whole) (code : Code) (nexts : List (List (List ℕ))) (stalls : ℕ → List Stall) (inputs : List (List ℤ))
+        → IsCompiled unit code nexts → AreInputs unit inputs
+        → (sizes : List ℕ) (order : ℕ → List ℕ) (cycles date : ℕ)
+        → opening_at (coded unit code nexts stalls inputs) sizes (turns_by (coded unit code nexts stalls inputs) order cycles) date
+        ≡ opening_at (stated unit nexts stalls inputs) sizes (turns_by (stated unit nexts stalls inputs) order cycles) date }
 {
     sound();
     keeps();
@@ -312,6 +362,58 @@ pub fn deeds()
     lasting();
     distances();
     regular();
+}
+
+/// A run that is taken up again at a quiet date goes on as the whole run does: behind that date it has the same lines and holds the same messages, its
+/// actions are those that the whole run adds, and the figures of its summary are those of the whole run.
+pub fn resume()
+    ensures actions { (s : System) (ways : Ways) (code : Code) (sizes : List ℕ) (order : ℕ → List ℕ) (date : ℕ)
+        → MayResume s ways code sizes order date → (later agent : ℕ) → date ≤ later
+        → history s later agent ≡ history (resumed_at s sizes order date) later agent ++ history s date agent }
+    ensures lines { (s : System) (ways : Ways) (code : Code) (sizes : List ℕ) (order : ℕ → List ℕ) (date : ℕ)
+        → MayResume s ways code sizes order date → (at : ℕ) → date < at → events s at ≡ events (resumed_at s sizes order date) at }
+    ensures queues { (s : System) (ways : Ways) (code : Code) (sizes : List ℕ) (order : ℕ → List ℕ) (date : ℕ)
+        → MayResume s ways code sizes order date → (at stream : ℕ) → date ≤ at
+        → queue_of s (suc at) stream ≡ queue_of (resumed_at s sizes order date) (suc at) stream }
+    ensures counts { (s : System) (ways : Ways) (code : Code) (sizes : List ℕ) (order : ℕ → List ℕ) (date : ℕ)
+        → MayResume s ways code sizes order date → (later until agent : ℕ) → date ≤ later → date ≤ until
+        → due_count s agent (due_by until (history s later agent))
+        ≡ due_count (resumed_at s sizes order date) agent (due_by until (history (resumed_at s sizes order date) later agent)) }
+    ensures slacks { (s : System) (ways : Ways) (code : Code) (sizes : List ℕ) (order : ℕ → List ℕ) (date : ℕ)
+        → MayResume s ways code sizes order date → (later until cycles agent : ℕ) → date ≤ later → date ≤ until
+        → date * s.unit.quantum ≤ cycles → least_slack s (turns_by s order cycles agent) agent (due_by until (history s later agent))
+        ≡ least_slack (resumed_at s sizes order date) (turns_by (resumed_at s sizes order date) order cycles agent) agent
+        (due_by until (history (resumed_at s sizes order date) later agent)) }
+    ensures reaches { (s : System) (ways : Ways) (code : Code) (sizes : List ℕ) (order : ℕ → List ℕ) (date : ℕ)
+        → MayResume s ways code sizes order date → (later cycles variable : ℕ) → date ≤ later
+        → date * s.unit.quantum ≤ cycles → reach s (turns_by s order cycles) (history s later) variable
+        ≡ reach (resumed_at s sizes order date) (turns_by (resumed_at s sizes order date) order cycles)
+        (history (resumed_at s sizes order date) later) variable }
+    ensures helds { (s : System) (ways : Ways) (code : Code) (sizes : List ℕ) (order : ℕ → List ℕ) (date : ℕ)
+        → MayResume s ways code sizes order date → (until stream : ℕ) → date ≤ until
+        → most_held s until stream ≡ most_held (resumed_at s sizes order date) until stream }
+{
+    dates();
+    distances();
+    regular();
+    openings();
+    given();
+}
+
+/// What a whole run leaves at a quiet date is sound: so it may be taken up again there.
+pub fn saved()
+    ensures { (s : System) (ways : Ways) (code : Code) (sizes : List ℕ) (order : ℕ → List ℕ) (date : ℕ) → MaySave s ways code sizes order date
+        → IsQuiet s date → MayResume s ways code sizes order date }
+{
+    lasting();
+    dates();
+    distances();
+    regular();
+    openings();
+    on_time();
+    ring_sizes();
+    queue_sizes();
+    deeds();
 }
 
 /// Isolation: two runs of a program with the same inputs, each with stalls of its own. Where, of each agent that reaches another, actions

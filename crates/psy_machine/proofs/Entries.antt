@@ -1,17 +1,23 @@
 -- Entries of working copies, and their index.
 use Rattle.std.proofs.Common.{◌≡◌, ◌≢◌, ℕ, zero, suc, ◌<◌, true, false, eqb, List, [], ◌∷◌, length, set, get_or, map, Some, refl, sym, ap, ◌∙◌, arith, ⊎_elim}
 use Rattle.std.specs.Prelude.{ℤ, IsSome}
+use Rattle.std.specs.List.{zip}
 use Rattle.std.proofs.lemmas.Bool.{false≢true}
 use Rattle.std.proofs.lemmas.Bool.Decides.{eqb_tells}
 use Rattle.std.proofs.lemmas.Option.{slice_get_within, get_or_from_slice_get}
 use Rattle.psy_code.specs.declared.code.CopyInit.{CopyInit}
 use Rattle.psy_code.specs.Execution.{Copy, copy_of, with_copy, copy_from}
 use Rattle.psy_machine.specs.declared.copies.Entry.{Entry}
-use Rattle.psy_machine.specs.Copying.{copies_in, entry_from, IsFirst, IsIndex}
+use Rattle.psy_machine.specs.Copying.{copies_in, entry_from, entry_with, with_values, IsFirst, IsIndex}
 
 pub copies_in-map : (cs : List CopyInit) → copies_in (map entry_from cs) ≡ map copy_from cs
 copies_in-map [] = refl
 copies_in-map (c ∷ cs) = ap (λ rest. copy_from c ∷ rest) (copies_in-map cs)
+
+pub copies_in-zip : (cs : List CopyInit) (values : List ℤ) → copies_in (map entry_with (zip cs values)) ≡ with_values (map copy_from cs) values
+copies_in-zip [] values = refl
+copies_in-zip (c ∷ cs) [] = refl
+copies_in-zip (c ∷ cs) (v ∷ values) = ap (λ rest. record { variable = c.variable; value = v } ∷ rest) (copies_in-zip cs values)
 
 -- The copy of a variable is the value of its first entry, and so it is another one's once it changes.
 pub record Found (variable : ℕ) (es : List Entry) : Type 0 where

@@ -2,7 +2,7 @@
 use Rattle.std.proofs.Common.{◌≡◌, ℕ, ◌+◌, ◌-◌, ◌<◌, ◌≤◌, List, [], ◌∷◌, ◌++◌, length, take, drop, set, get_or, reverse, replicate, vec_capacity, Some, refl, sym, ap, ◌∙◌, arith}
 use Rattle.std.specs.Prelude.{ℤ, slice_get, slice_set}
 use Rattle.std.specs.Vec.{with_item}
-use Rattle.std.proofs.lemmas.List.{length-drop, length-reverse, length-take-le, take_at, drop_at, get_or-drop, take_all, take-take, take-set-le, drop-set-add}
+use Rattle.std.proofs.lemmas.List.{length-drop, length-reverse, length-take-le, take_at, drop_at, get_or-drop, get_or-take, take_all, take-take, take-set-le, drop-set-add}
 use Rattle.std.proofs.lemmas.Option.{slice_get-get_or}
 use Rattle.psy_base.specs.declared.limits.TheConstants.{OPEN_CALLS}
 use Rattle.psy_code.specs.Execution.{Frame, OpenCall, innermost_frame, home_with, calls_with, cells_in_calls, cleared}
@@ -102,6 +102,24 @@ pub slice_get-drop : {A : Type 0} → (xs : List A) (at n : ℕ) (x : A) → at 
 slice_get-drop xs at n x h e =
     let within : n < length (drop at xs) = omega (arith, length-drop at xs) in
     slice_get-get_or (drop at xs) n x within ∙ ap Some (get_or-drop at xs n x ∙ sym e)
+
+-- A cell of the agent's own frame stands among all cells at its own place.
+pub record IsHomeCell (f : Inside) (m : FrameStack) (n : ℕ) : Type 0 where
+  pub within : n < length f.cells.items
+  pub read : (x : ℤ) → x ≡ get_or f.cells.items n x → slice_get m.home.cells n ≡ Some x
+
+pub home_cell : (f : Inside) (m : FrameStack) (n : ℕ) → frames_in f ≡ m → IsLaidOut f → n < length m.home.cells → IsHomeCell f m n
+home_cell f m n e ok less =
+    let hs = reverse f.headers.items in
+    let own = home-cells hs f.present f.cells.items f.counters.items f.home_end ok.cut in
+    let same : m.home.cells ≡ take f.home_end.cells f.cells.items = ap (λ (s : FrameStack). s.home.cells) (sym e) ∙ own in
+    let ends = end_within hs f.present (length f.cells.items) (length f.counters.items) f.home_end ok.cut in
+    let short = length-take-le f.home_end.cells f.cells.items ends.0 in
+    let low : n < f.home_end.cells = omega (arith, less, ap length same, short) in
+    record {
+      within = omega (arith, low, ends.0);
+      read = λ x is. ap (λ cells. slice_get cells n) same ∙ slice_get-get_or (take f.home_end.cells f.cells.items) n x (omega (arith, low, short)) ∙ ap Some (get_or-take f.home_end.cells f.cells.items n x low ∙ sym is);
+    }
 
 frame_stack : (home home' : Frame) (calls calls' : List OpenCall) (room : ℕ) → home ≡ home' → calls ≡ calls' → ◌≡◌ {A = FrameStack} (record { home = home; calls = calls; room = room }) (record { home = home'; calls = calls'; room = room })
 frame_stack home home' calls calls' room e d = cc

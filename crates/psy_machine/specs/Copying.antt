@@ -1,5 +1,5 @@
 -- The working copies of variables, as entries with an index by variable.
-use Rattle.std.specs.Prelude.{◌≡◌, ◌≢◌, ℕ, zero, suc, List, [], ◌∷◌, Some, slice_get}
+use Rattle.std.specs.Prelude.{◌≡◌, ◌≢◌, ℕ, zero, suc, List, [], ◌∷◌, Some, slice_get, ℤ}
 use Rattle.psy_code.specs.declared.code.CopyInit.{CopyInit}
 use Rattle.psy_code.specs.Execution.{Copy}
 use Rattle.psy_machine.specs.declared.copies.Entry.{Entry}
@@ -12,6 +12,16 @@ copies_in (e ∷ es) = record { variable = e.variable; value = e.value } ∷ cop
 -- The entry of a copy that has its first value
 abbrev pub entry_from : CopyInit → Entry
 entry_from c = record { variable = c.variable; value = c.init }
+
+-- The entry of a copy that has another value
+abbrev pub entry_with : CopyInit × ℤ → Entry
+entry_with (c, value) = record { variable = c.variable; value = value }
+
+-- Copies with these values, one each
+abbrev pub with_values : List Copy → List ℤ → List Copy
+with_values [] values = []
+with_values (c ∷ copies) [] = []
+with_values (c ∷ copies) (value ∷ values) = record c { value = value } ∷ with_values copies values
 
 -- The first entry of a variable stands at a place.
 abbrev pub IsFirst : ℕ → List Entry → ℕ → Type 0

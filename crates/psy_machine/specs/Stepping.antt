@@ -1,9 +1,10 @@
 -- What a step of an agent's machine does: one instruction of the definition of execution.
-use Rattle.std.specs.Prelude.{◌≡◌, ℕ, ◌≤◌, Option, Some, None, slice_get}
+use Rattle.std.specs.Prelude.{◌≡◌, ℕ, ◌<◌, ◌≤◌, List, length, map, replicate, Option, Some, None, slice_get, ℤ}
 use Rattle.psy_code.specs.declared.code.Code.{Code}
 use Rattle.psy_code.specs.declared.code.AgentCode.{AgentCode}
 use Rattle.psy_code.specs.Views.{View, Window, Call, Past, answered}
-use Rattle.psy_code.specs.Execution.{Machine, Next, Went, Ended, Trapped, Stuck, need, next_of, new_machine}
+use Rattle.psy_code.specs.Execution.{Machine, Next, Went, Ended, Trapped, Stuck, need, next_of, new_machine, copy_from, standing}
+use Rattle.psy_machine.specs.Copying.{with_values}
 use Rattle.psy_machine.specs.declared.machine.Step.{Step}
 use Rattle.psy_machine.specs.declared.machine.Step.TheVariants as step
 
@@ -24,6 +25,16 @@ IsOf code m = (agent : AgentCode) × (slice_get code.agents m.agent ≡ Some age
 -- A new machine of this agent stands at point 0 with the first values.
 abbrev pub IsNew : Code → ℕ → AgentMachine → Type 0
 IsNew code number m = (agent : AgentCode) × (slice_get code.agents number ≡ Some agent) × (m.agent ≡ number) × (m.machine ≡ new_machine agent)
+
+-- The code has this agent with this point, and so many cells and copies.
+abbrev pub HasPlace : Code → ℕ → ℕ → List ℤ → List ℤ → Type 0
+HasPlace code number point cells copies = (agent : AgentCode) × (slice_get code.agents number ≡ Some agent)
+    × (point < length agent.points) × (length cells ≡ length agent.cells) × (length copies ≡ length agent.copies)
+
+-- The machine of this agent stands at a point with these values in its cells and working copies, its counters 0.
+abbrev pub StandsAt : Code → ℕ → ℕ → List ℤ → List ℤ → AgentMachine → Type 0
+StandsAt code number point cells copies m = (agent : AgentCode) × (slice_get code.agents number ≡ Some agent) × (m.agent ≡ number)
+    × (m.machine ≡ standing agent point (record { cells = cells; counters = replicate agent.counters 0 }) (with_values (map copy_from agent.copies) copies))
 
 -- What comes of the machine's next instruction.
 abbrev pub next_for : Code → View → AgentMachine → Next

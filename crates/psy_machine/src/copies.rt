@@ -1,7 +1,8 @@
 //! The working copies of an agent's variables.
 ghost use Rattle.std.specs.Prelude.{◌≡◌, ◌≢◌, ℕ, ◌+◌, ◌<◌, ◌^◌, Some, map, slice_get, IsSome, IfOk, OnOk};
+ghost use Rattle.std.specs.List.{zip};
 ghost use Rattle.psy_code.specs.Execution.{copy_of, with_copy, copy_from};
-ghost use Rattle.psy_machine.specs.Copying.{entry_from, IsIndex};
+ghost use Rattle.psy_machine.specs.Copying.{copies_in, entry_from, entry_with, with_values, IsIndex};
 
 use psy_code::CopyInit;
 use std::alloc::{AllocError, Global};
@@ -39,7 +40,23 @@ impl Copies {
     pub fn new(alloc: Global, inits: &[CopyInit]) -> Result<Copies, AllocError>
         ensures { IfOk result (λ c. c ≡ map copy_from inits.now) }
     {
-        let entries = entries_of(alloc, inits)?;
+        Copies::of(alloc, entries_of(alloc, inits)?)
+    }
+
+    /// The copies of the same variables with these values, one each.
+    pub fn with_values(
+        alloc: Global,
+        inits: &[CopyInit],
+        values: &[i32],
+    ) -> Result<Copies, AllocError>
+        ensures { IfOk result (λ c. c ≡ with_values (map copy_from inits.now) values.now) }
+    {
+        Copies::of(alloc, entries_with(alloc, inits, values)?)
+    }
+
+    fn of(alloc: Global, entries: Vec<Entry>) -> Result<Copies, AllocError>
+        ensures { IfOk result (λ c. c ≡ copies_in entries.items) }
+    {
         let places = index_of(alloc, &entries)?;
         Ok(Copies { entries, places })
     }
@@ -70,6 +87,19 @@ fn entries_of(alloc: Global, inits: &[CopyInit]) -> Result<Vec<Entry>, AllocErro
         .map(|c| Entry {
             variable: c.variable,
             value: c.init,
+        })
+        .collect(alloc)
+}
+
+fn entries_with(alloc: Global, inits: &[CopyInit], values: &[i32]) -> Result<Vec<Entry>, AllocError>
+    ensures { IfOk result (λ entries. entries.items ≡ map entry_with (zip inits.now values.now)) }
+{
+    inits
+        .iter()
+        .zip(values.iter())
+        .map(|(c, value)| Entry {
+            variable: c.variable,
+            value: *value,
         })
         .collect(alloc)
 }

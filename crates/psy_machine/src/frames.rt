@@ -56,16 +56,49 @@ impl Frames {
         ensures calls { IfOk result (λ f. f.calls ≡ []) }
         ensures room { IfOk result (λ f. room ≤ f.room) }
     {
+        let mut all_cells = Vec::with_capacity(alloc, cells.len() + room as usize)?;
+        put_all(&mut all_cells, cells);
+        Frames::around(alloc, all_cells, counters, room)
+    }
+
+    /// The frame of an agent that has these values, with room for open calls as above.
+    pub fn with_cells(
+        alloc: Global,
+        cells: &[i64],
+        counters: u32,
+        room: u32,
+    ) -> Result<Frames, AllocError>
+        ensures home { IfOk result (λ f.
+            f.home ≡ record { cells = cells.now; counters = replicate counters 0 }) }
+        ensures calls { IfOk result (λ f. f.calls ≡ []) }
+        ensures room { IfOk result (λ f. room ≤ f.room) }
+    {
+        let mut all_cells = Vec::with_capacity(alloc, cells.len() + room as usize)?;
+        all_cells.extend_from_slice(cells)?;
+        Frames::around(alloc, all_cells, counters, room)
+    }
+
+    /// The frame of an agent around its cells, behind which there is room for those of open calls.
+    fn around(
+        alloc: Global,
+        cells: Vec<i64>,
+        counters: u32,
+        room: u32,
+    ) -> Result<Frames, AllocError>
+        requires { length cells.items + room ≤ vec_capacity cells }
+        ensures home { IfOk result (λ f.
+            f.home ≡ record { cells = cells.items; counters = replicate counters 0 }) }
+        ensures calls { IfOk result (λ f. f.calls ≡ []) }
+        ensures room { IfOk result (λ f. room ≤ f.room) }
+    {
         let home_end = Place {
             cells: cells.len(),
             counters: counters as usize,
         };
-        let mut all_cells = Vec::with_capacity(alloc, home_end.cells + room as usize)?;
-        put_all(&mut all_cells, cells);
         let mut all_counters = Vec::with_capacity(alloc, home_end.counters + room as usize)?;
         all_counters.resize(home_end.counters, 0)?;
         Ok(Frames {
-            cells: all_cells,
+            cells,
             counters: all_counters,
             headers: Vec::with_capacity(alloc, OPEN_CALLS as usize)?,
             present: Place {
@@ -75,6 +108,14 @@ impl Frames {
             home_end,
             room,
         })
+    }
+
+    /// A cell of the agent's own frame.
+    pub fn home_cell(&self, number: usize) -> i64
+        requires { number < length self.now.home.cells }
+        ensures { slice_get self.now.home.cells number ≡ Some result }
+    {
+        self.cells[number]
     }
 
     /// A cell of the innermost frame.

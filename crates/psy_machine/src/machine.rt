@@ -1,8 +1,8 @@
 //! The machine of an agent.
-ghost use Rattle.std.specs.Prelude.{◌≡◌, ◌≢◌, ◌<◌, List, length, slice_index_or, Some, IsSome, IfOk, ℤ};
+ghost use Rattle.std.specs.Prelude.{◌≡◌, ◌≢◌, ◌<◌, List, length, slice_get, slice_index_or, Some, IsSome, IfOk, ℤ};
 ghost use Rattle.psy_code.specs.Execution.{Stuck, copy_of, call_of, call_by, does};
 ghost use Rattle.psy_code.specs.Views.{PermitsAll};
-ghost use Rattle.psy_machine.specs.Stepping.{IsOf, IsNew, Answers, look_of, next_for, stepped, window_after};
+ghost use Rattle.psy_machine.specs.Stepping.{IsOf, IsNew, HasPlace, StandsAt, Answers, look_of, next_for, stepped, window_after};
 ghost use Rattle.psy_machine.specs.Acting.{CanDo, Did};
 
 mod control;
@@ -76,6 +76,30 @@ impl Machine {
         })
     }
 
+    /// The machine of an agent that begins an action at a point with these values in its cells and its working copies, in their
+    /// order. All the room that it ever needs is reserved here; the only error is want of memory.
+    pub fn resume(
+        alloc: Global,
+        code: &Code,
+        agent: u32,
+        point: u32,
+        cells: &[i64],
+        copies: &[i32],
+    ) -> Result<Machine, Memory>
+        requires { HasPlace code.now agent point cells.now copies.now }
+        ensures stands { IfOk result (StandsAt code.now agent point cells.now copies.now) }
+        ensures of { IfOk result (IsOf code.now) }
+    {
+        let of = &code.agents.as_slice()[agent as usize];
+        Ok(Machine {
+            agent,
+            place: of.points.as_slice()[point as usize] as usize,
+            operands: Operands::new(alloc, of.stack)?,
+            frames: Frames::with_cells(alloc, cells, of.counters, of.frames)?,
+            copies: Copies::with_values(alloc, of.copies.as_slice(), copies)?,
+        })
+    }
+
     /// Executes one instruction. A trap leaves the machine as it was.
     #[inline(always)]
     pub fn step<L: Look>(&mut self, code: &Code, look: &mut L) -> Step
@@ -102,6 +126,14 @@ impl Machine {
             Some(instr) => look_by(instr),
             None => None,
         }
+    }
+
+    /// The value in a cell of the agent's own frame. It takes no memory.
+    pub fn cell(&self, place: u32) -> i64
+        requires { place < length self.now.machine.home.cells }
+        ensures { slice_get self.now.machine.home.cells place ≡ Some result }
+    {
+        self.frames.home_cell(place as usize)
     }
 
     /// The working copy of a variable that the agent owns.

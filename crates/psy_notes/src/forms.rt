@@ -33,8 +33,8 @@ pub const CHECK: [Form; 5] = [
     Form::Feasible,
 ];
 
-/// The forms of the lines with which psyc refuses.
-pub const REFUSALS: [Form; 7] = [
+/// The forms of the lines with which psyc refuses; a `refused image PLACE` is of the form `refused WHAT NUMBER` too, by which it is read.
+pub const REFUSALS: [Form; 8] = [
     Form::Words,
     Form::Read,
     Form::Limit,
@@ -42,11 +42,12 @@ pub const REFUSALS: [Form; 7] = [
     Form::RefusedAt,
     Form::Infeasible,
     Form::InfeasibleOn,
+    Form::Busy,
 ];
 
-/// The forms by which a line alone is read: those of a run, of a check, of a graph and of a refusal. Left out is the first line of a graph, since each line
-/// of that form is one of a run too.
-pub const LINES: [Form; 22] = [
+/// The forms by which a line alone is read: those of a run, of a check, of a graph, of an audit and of a refusal. Left out are the first line of a graph,
+/// since each line of that form is one of a run too, and `refused image PLACE`, since each is one of `refused WHAT NUMBER`, by which it is read.
+pub const LINES: [Form; 24] = [
     Form::Value,
     Form::Message,
     Form::StopOverrun,
@@ -62,6 +63,7 @@ pub const LINES: [Form; 22] = [
     Form::Feasible,
     Form::EdgeOf,
     Form::Node,
+    Form::Legal,
     Form::Words,
     Form::Read,
     Form::Limit,
@@ -69,6 +71,7 @@ pub const LINES: [Form; 22] = [
     Form::RefusedAt,
     Form::Infeasible,
     Form::InfeasibleOn,
+    Form::Busy,
 ];
 
 /// The note that a line says, its line feed included. None exactly where it says none.

@@ -1,7 +1,7 @@
 -- What the fields of a queue stand for.
 use Rattle.std.specs.Prelude.{◌≤◌, IsTrue, vec_len, vec_capacity}
-use Rattle.psy_base.specs.declared.limits.TheConstants.{QUEUE}
 use Rattle.psy_queue.specs.declared.queue.Queue.TheInside.{Inside}
+use Rattle.psy_queue.specs.declared.room.TheConstants.{MOST_PLACES}
 use Rattle.psy_queue.specs.Expiring.{ExpiryRises}
 use Rattle.psy_queue.specs.Order.{Queued, AreInOrder}
 
@@ -14,6 +14,6 @@ pub record IsQueue (q : Inside) : Type 0 where
   pub in_order : AreInOrder q.messages.items
   pub within : vec_len q.messages ≤ q.size
   pub room : q.size ≤ vec_capacity q.messages
-  pub limit : q.size ≤ QUEUE
+  pub limit : q.size ≤ MOST_PLACES
   -- those that are known to expire in their order do
   pub rising : IsTrue q.rising → ExpiryRises q.messages.items

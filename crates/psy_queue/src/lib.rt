@@ -3,6 +3,8 @@
 #![tactic(auto)]
 
 mod queue;
+mod room;
 
 pub use psy_base::Message;
 pub use queue::Queue;
+pub use room::MOST_PLACES;

@@ -1,9 +1,9 @@
 //! The messages of a stream, in order.
 ghost use Rattle.std.specs.Prelude.{◌≡◌, ℕ, ◌+◌, ◌<◌, ◌≤◌, true, false, [], Some, IfOk, IsTrue, drop, filter, length, nat_le, nat_lt, slice_get, vec_capacity};
 ghost use Rattle.std.specs.List.Sorted.{IsPartitionPoint};
-ghost use Rattle.psy_base.specs.declared.limits.TheConstants.{QUEUE};
 ghost use Rattle.psy_base.specs.declared.message.Message.{Message};
 ghost use Rattle.psy_queue.specs.Expiring.{ExpiryRises};
+ghost use Rattle.psy_queue.specs.declared.room.TheConstants.{MOST_PLACES};
 ghost use Rattle.psy_queue.specs.Order.{AreInOrder, comes_before, put_in_order, message_values};
 
 use psy_base::{Memory, Message};
@@ -135,9 +135,9 @@ fn drop_expired(messages: &mut Vec<Message>, date: u64, rising: bool)
 }
 
 impl Queue {
-    /// An empty queue of so many places, at most 65,536. The only error is want of memory; no other call takes any.
+    /// An empty queue of so many places, at most 131,072. The only error is want of memory; no other call takes any.
     pub fn new(alloc: Global, size: u32) -> Result<Queue, Memory>
-        requires { size ≤ QUEUE }
+        requires { size ≤ MOST_PLACES }
         ensures { IfOk result (λ queue. queue ≡ record { size = size; messages = [] }) }
     {
         Ok(Queue {
@@ -180,6 +180,14 @@ impl Queue {
         ensures { slice_get (message_values self.now.messages) place ≡ Some result }
     {
         self.messages[place as usize].value
+    }
+
+    /// The message at a place, the first one standing at 0.
+    pub fn message(&self, place: u32) -> Message
+        requires { place < length self.now.messages }
+        ensures { slice_get self.now.messages place ≡ Some result }
+    {
+        self.messages[place as usize]
     }
 
     /// How many messages are held. They stand in order.

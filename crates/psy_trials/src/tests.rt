@@ -5,6 +5,7 @@ mod depths;
 mod exchanges;
 mod flow;
 mod processors;
+mod resumes;
 mod tokens;
 mod trees;
 mod ways;

@@ -12,5 +12,6 @@ pub mod Notes
 pub mod Places
 pub mod Plains
 pub mod Refusals
+pub mod Unsound
 pub mod Untrue
 pub mod Writings

@@ -3,7 +3,7 @@ use Rattle.std.specs.Prelude.{ℕ, ◌==◌, ◌&&◌, Bool, List, [], ◌∷◌
 use Rattle.psy_base.specs.declared.limits.TheConstants.{AGENTS, CLOCKS, EDGES, FILE_BYTES, FUNCTIONS, LINES, NAMES, NODES}
 use Rattle.psy_base.specs.declared.limits.TheConstants.{POINTS, QUEUE, RING, RUN, STREAMS, VARIABLES, WINDOW_CELLS}
 use Rattle.psy_where.specs.declared.limit.Limit.{Limit}
-use Rattle.psy_where.specs.declared.limit.Limit.TheVariants.{Program, Image, Inputs, Script, Trace, Clocks, Agents, Variables, Streams, Functions, Names}
+use Rattle.psy_where.specs.declared.limit.Limit.TheVariants.{Program, Image, Inputs, Script, Trace, State, Clocks, Agents, Variables, Streams, Functions, Names}
 use Rattle.psy_where.specs.declared.limit.Limit.TheVariants.{Points, Nodes, Edges, Ring, Queue, Cells, Lines, Cycles}
 
 -- What psyc calls it
@@ -13,6 +13,7 @@ limit_name Image = codes "image"
 limit_name Inputs = codes "inputs"
 limit_name Script = codes "script"
 limit_name Trace = codes "trace"
+limit_name State = codes "state"
 limit_name Clocks = codes "clocks"
 limit_name Agents = codes "agents"
 limit_name Variables = codes "variables"
@@ -35,6 +36,7 @@ limit_number Image = FILE_BYTES
 limit_number Inputs = FILE_BYTES
 limit_number Script = FILE_BYTES
 limit_number Trace = FILE_BYTES
+limit_number State = FILE_BYTES
 limit_number Clocks = CLOCKS
 limit_number Agents = AGENTS
 limit_number Variables = VARIABLES
@@ -57,6 +59,7 @@ limit_sentence Image = codes "the image has more than 262144 bytes"
 limit_sentence Inputs = codes "the file of inputs has more than 262144 bytes"
 limit_sentence Script = codes "the script has more than 262144 bytes"
 limit_sentence Trace = codes "the trace has more than 262144 bytes"
+limit_sentence State = codes "the state has more than 262144 bytes"
 limit_sentence Clocks = codes "more than 64 clocks are declared"
 limit_sentence Agents = codes "more than 64 agents are declared"
 limit_sentence Variables = codes "more than 256 temporal variables and inputs are declared"
@@ -75,8 +78,8 @@ limit_sentence Cycles = codes "the last date times the cycles of a tick is more 
 -- All of them
 abbrev pub LIMITS : List Limit
 LIMITS =
-    Program ∷ Image ∷ Inputs ∷ Script ∷ Trace ∷ Clocks ∷ Agents ∷ Variables ∷ Streams ∷ Functions ∷ Names ∷ Points ∷ Nodes ∷ Edges ∷ Ring ∷ Queue ∷ Cells
-    ∷ Lines ∷ Cycles ∷ []
+    Program ∷ Image ∷ Inputs ∷ Script ∷ Trace ∷ State ∷ Clocks ∷ Agents ∷ Variables ∷ Streams ∷ Functions ∷ Names ∷ Points ∷ Nodes ∷ Edges ∷ Ring ∷ Queue
+    ∷ Cells ∷ Lines ∷ Cycles ∷ []
 
 -- It has this name and number
 abbrev pub is_limit : Limit → List ℕ → ℕ → Bool

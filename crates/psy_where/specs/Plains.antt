@@ -7,11 +7,12 @@ use Rattle.psy_log.specs.Forms.{says}
 use Rattle.psy_log.specs.Table.{Said}
 use Rattle.psy_notes.specs.Reading.{long_at, name_at, short_at}
 use Rattle.psy_where.specs.Broken.{broken_of, broken_sentence}
+use Rattle.psy_where.specs.Unsound.{unsound_of, unsound_sentence}
 use Rattle.psy_where.specs.Untrue.{untrue_of, untrue_sentence}
 use Rattle.psy_where.specs.declared.limit.Limit.{Limit}
 use Rattle.psy_where.specs.declared.plain.Plain.{Plain}
 use Rattle.psy_where.specs.declared.plain.Plain.TheVariants.{Words, ReadProgram, ReadImage, ReadInputs, ReadScript}
-use Rattle.psy_where.specs.declared.plain.Plain.TheVariants.{ReadTrace, Passed, BadImage, Unverified, Untrue}
+use Rattle.psy_where.specs.declared.plain.Plain.TheVariants.{ReadTrace, ReadState, Passed, BadImage, Unverified, Untrue, Unsound, Busy}
 use Rattle.psy_where.specs.Limits.{limit_of, limit_sentence}
 use Rattle.psy_where.specs.Notes.{IsNoteOf}
 
@@ -23,6 +24,7 @@ unread_of file =
     else if bytes_eq file (codes "inputs") then Some ReadInputs
     else if bytes_eq file (codes "script") then Some ReadScript
     else if bytes_eq file (codes "trace") then Some ReadTrace
+    else if bytes_eq file (codes "state") then Some ReadState
     else None
 
 -- That a limit is passed, where it is one
@@ -30,11 +32,12 @@ abbrev pub passed : Option Limit → Option Plain
 passed None = None
 passed (Some limit) = Some (Passed limit)
 
--- That the code of an image breaks a rule, or a trace has a fault, of whatever is refused by a number and a place
+-- That the code of an image breaks a rule, or a trace or a state has a fault, of whatever is refused by a number and a place
 abbrev pub refused_of : List ℕ → ℕ → Option Plain
 refused_of what number =
     if bytes_eq what (codes "verify") then option_map Unverified (broken_of number)
     else if bytes_eq what (codes "trace") then option_map Untrue (untrue_of number)
+    else if bytes_eq what (codes "state") then option_map Unsound (unsound_of number)
     else None
 
 -- That bytes are no image, of whatever is refused by a place alone
@@ -49,6 +52,7 @@ plain_in form.Limit said = passed (limit_of (name_at said 0) (long_at said 1))
 plain_in form.RefusedImage said = Some BadImage
 plain_in form.Refused said = unspelled_of (name_at said 0)
 plain_in form.RefusedAt said = refused_of (name_at said 0) (short_at said 1)
+plain_in form.Busy said = Some Busy
 plain_in _ said = None
 
 -- The line says this.
@@ -65,8 +69,13 @@ plain_sentence ReadImage = codes "psyc couldn't read the image: look whether a f
 plain_sentence ReadInputs = codes "psyc couldn't read the inputs: look whether a file of this name is there, is no folder, and may be read by you"
 plain_sentence ReadScript = codes "psyc couldn't read the script: look whether a file of this name is there, is no folder, and may be read by you"
 plain_sentence ReadTrace = codes "psyc couldn't read the trace: look whether a file of this name is there, is no folder, and may be read by you"
+plain_sentence ReadState = codes "psyc couldn't read the state: look whether a file of this name is there, is no folder, and may be read by you"
 plain_sentence (Passed limit) = limit_sentence limit
 plain_sentence BadImage =
     codes "the bytes are no image: the field that begins at this byte is missing, cut or out of its range, or a byte stands behind the last field"
 plain_sentence (Unverified broken) = broken_sentence broken
 plain_sentence (Untrue untrue) = untrue_sentence untrue
+plain_sentence (Unsound unsound) = unsound_sentence unsound
+plain_sentence Busy =
+    codes "this agent is in the middle of an action at that date, so no state can be taken there: each one that isn't silent has to start an action then, "
+    ++ codes "or not to have begun; a later date may do"

@@ -17,6 +17,8 @@ pub enum Limit {
     Script,
     /// Of the bytes of a trace.
     Trace,
+    /// Of the bytes of a state.
+    State,
     /// Of clocks.
     Clocks,
     /// Of agents.
@@ -47,12 +49,13 @@ pub enum Limit {
     Cycles,
 }
 
-const LIMITS: [Limit; 19] = [
+const LIMITS: [Limit; 20] = [
     Limit::Program,
     Limit::Image,
     Limit::Inputs,
     Limit::Script,
     Limit::Trace,
+    Limit::State,
     Limit::Clocks,
     Limit::Agents,
     Limit::Variables,
@@ -94,6 +97,7 @@ fn limit_name(limit: Limit) -> &'static [u8]
         Limit::Inputs => b"inputs",
         Limit::Script => b"script",
         Limit::Trace => b"trace",
+        Limit::State => b"state",
         Limit::Clocks => b"clocks",
         Limit::Agents => b"agents",
         Limit::Variables => b"variables",
@@ -115,9 +119,12 @@ fn limit_number(limit: Limit) -> u64
     ensures { result ≡ limit_number limit }
 {
     match limit {
-        Limit::Program | Limit::Image | Limit::Inputs | Limit::Script | Limit::Trace => {
-            limits::FILE_BYTES as u64
-        }
+        Limit::Program
+        | Limit::Image
+        | Limit::Inputs
+        | Limit::Script
+        | Limit::Trace
+        | Limit::State => limits::FILE_BYTES as u64,
         Limit::Clocks => limits::CLOCKS as u64,
         Limit::Agents => limits::AGENTS as u64,
         Limit::Variables => limits::VARIABLES as u64,
@@ -145,6 +152,7 @@ pub fn limit_sentence(limit: Limit) -> &'static [u8]
         Limit::Inputs => b"the file of inputs has more than 262144 bytes",
         Limit::Script => b"the script has more than 262144 bytes",
         Limit::Trace => b"the trace has more than 262144 bytes",
+        Limit::State => b"the state has more than 262144 bytes",
         Limit::Clocks => b"more than 64 clocks are declared",
         Limit::Agents => b"more than 64 agents are declared",
         Limit::Variables => b"more than 256 temporal variables and inputs are declared",

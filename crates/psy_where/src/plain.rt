@@ -5,6 +5,7 @@ ghost use Rattle.psy_where.specs.Plains.{plain_in, plain_sentence, refused_of, u
 
 use crate::broken::{Broken, broken_of, broken_sentence};
 use crate::limit::{Limit, limit_of, limit_sentence};
+use crate::unsound::{Unsound, unsound_of, unsound_sentence};
 use crate::untrue::{Untrue, untrue_of, untrue_sentence};
 use psy_log::Note;
 
@@ -23,6 +24,8 @@ pub enum Plain {
     ReadScript,
     /// The trace can't be read.
     ReadTrace,
+    /// The state can't be read.
+    ReadState,
     /// This limit is passed.
     Passed(Limit),
     /// The bytes are no image.
@@ -31,6 +34,10 @@ pub enum Plain {
     Unverified(Broken),
     /// A trace has this fault.
     Untrue(Untrue),
+    /// A state has this fault.
+    Unsound(Unsound),
+    /// An agent doesn't stand so that a state can be taken.
+    Busy,
 }
 
 /// The one that a note says.
@@ -48,6 +55,7 @@ pub fn plain_of(note: Note<'_>) -> Option<Plain>
             at: Some(_),
         } => refused_of(what, number),
         Note::Refused { what, at: None, .. } => unspelled_of(what),
+        Note::Busy { .. } => Some(Plain::Busy),
         _ => None,
     }
 }
@@ -66,12 +74,14 @@ fn unread_of(file: &[u8]) -> Option<Plain>
         Some(Plain::ReadScript)
     } else if file == b"trace".as_slice() {
         Some(Plain::ReadTrace)
+    } else if file == b"state".as_slice() {
+        Some(Plain::ReadState)
     } else {
         None
     }
 }
 
-// That the code of an image breaks a rule, or a trace has a fault, of whatever is refused by a number and a place.
+// That the code of an image breaks a rule, or a trace or a state has a fault, of whatever is refused by a number and a place.
 fn refused_of(what: &[u8], number: u32) -> Option<Plain>
     ensures { result ≡ refused_of what.now number }
 {
@@ -79,6 +89,8 @@ fn refused_of(what: &[u8], number: u32) -> Option<Plain>
         Some(Plain::Unverified(broken_of(number)?))
     } else if what == b"trace".as_slice() {
         Some(Plain::Untrue(untrue_of(number)?))
+    } else if what == b"state".as_slice() {
+        Some(Plain::Unsound(unsound_of(number)?))
     } else {
         None
     }
@@ -113,10 +125,16 @@ pub fn plain_sentence(plain: Plain) -> &'static [u8]
             b"psyc couldn't read the script: look whether a file of this name is there, is no folder, and may be read by you",
         Plain::ReadTrace =>
             b"psyc couldn't read the trace: look whether a file of this name is there, is no folder, and may be read by you",
+        Plain::ReadState =>
+            b"psyc couldn't read the state: look whether a file of this name is there, is no folder, and may be read by you",
         Plain::Passed(limit) => limit_sentence(limit),
         Plain::BadImage =>
             b"the bytes are no image: the field that begins at this byte is missing, cut or out of its range, or a byte stands behind the last field",
         Plain::Unverified(broken) => broken_sentence(broken),
         Plain::Untrue(untrue) => untrue_sentence(untrue),
+        Plain::Unsound(unsound) => unsound_sentence(unsound),
+        Plain::Busy =>
+            b"this agent is in the middle of an action at that date, so no state can be taken there: each one that isn't silent has to start an action then, \
+            or not to have begun; a later date may do",
     }
 }

@@ -1,5 +1,6 @@
 -- The commands of psyview: their names, and the words that stand behind them.
-use Rattle.std.specs.Prelude.{ℕ, Bool, ◌||◌, List, [], ◌∷◌, codes, bytes_eq, find, Option, None, Some}
+use Rattle.std.specs.Prelude.{ℕ, Bool, List, [], ◌∷◌, codes, bytes_eq, find, Option, None, Some}
+use Rattle.std.specs.List.{list_any}
 use Rattle.psy_near.specs.Near.{is_near}
 use Rattle.psy_words.specs.declared.command.Command.{Command}
 use Rattle.psy_words.specs.declared.command.Command.TheVariants.{Run, Check, Where, Timeline, Csv, Vcd, Diff, Expect, Dot, Flow, Listing, Report, Help, Version}
@@ -99,6 +100,11 @@ command_of word = find (λ command. bytes_eq (name_of command) word) COMMANDS
 abbrev pub near_command : List ℕ → Option Command
 near_command word = find (λ command. is_near word (name_of command)) COMMANDS
 
+-- The words that ask psyc for what psyview doesn't do
+abbrev pub OTHERS : List (List ℕ)
+OTHERS =
+    codes "graph" ∷ codes "make" ∷ codes "trial" ∷ codes "build" ∷ codes "exec" ∷ codes "audit" ∷ []
+
 -- A command that psyc has, and psyview hasn't
 abbrev pub is_of_psyc : List ℕ → Bool
-is_of_psyc word = bytes_eq word (codes "graph") || (bytes_eq word (codes "make") || bytes_eq word (codes "trial"))
+is_of_psyc word = list_any (λ other. bytes_eq other word) OTHERS

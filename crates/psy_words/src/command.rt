@@ -181,5 +181,8 @@ pub fn near_command(word: &[u8]) -> Option<Command>
 pub fn is_of_psyc(word: &[u8]) -> bool
     ensures { result ≡ is_of_psyc word.now }
 {
-    word == b"graph".as_slice() || (word == b"make".as_slice() || word == b"trial".as_slice())
+    matches!(
+        word,
+        b"graph" | b"make" | b"trial" | b"build" | b"exec" | b"audit"
+    )
 }

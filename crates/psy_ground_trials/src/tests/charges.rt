@@ -79,3 +79,17 @@ fn stretches_go_up_to_the_next_stall_and_the_budget(rt: HostRuntime) -> Result<(
     laws::stretches();
     Ok(())
 }
+
+#[test]
+fn an_action_is_started_by_its_number(rt: HostRuntime) -> Result<(), Fail> {
+    const STALLS: [Stall; 3] = [stall!(0, 0, 9), stall!(7, 0, 1), stall!(8, 0, 9)];
+    const EIGHTH: [Tick; 4] = [Tick::Stalled, Tick::Paid, Tick::Paid, Tick::Spent];
+    const NINTH: [Tick; 3] = [Tick::Stalled, Tick::Stalled, Tick::Spent];
+    let mut charge = Charge::new(Items::from_slice(rt.alloc(), &STALLS)?);
+    charge.start_at(7, 3);
+    compare_ticks(&rt, &mut charge, &EIGHTH);
+    charge.start(2);
+    compare_ticks(&rt, &mut charge, &NINTH);
+    laws::starts();
+    Ok(())
+}

@@ -23,7 +23,7 @@ fn counts_have_their_limits(rt: HostRuntime) {
 
 #[test]
 fn numbers_have_their_limits(rt: HostRuntime) {
-    const CASES: [(u32, u32, &str); 18] = [
+    const CASES: [(u32, u32, &str); 19] = [
         (limits::LITERAL, 2_147_483_647, "value of a number"),
         (limits::QUANTUM, 1_000_000, "cycles of a tick"),
         (limits::BUDGET, 1_000_000, "cycles of a budget"),
@@ -42,6 +42,11 @@ fn numbers_have_their_limits(rt: HostRuntime) {
         (limits::EDGES, 4_096, "edges of a graph"),
         (limits::RING, 65_536, "places of a ring"),
         (limits::QUEUE, 65_536, "places of a queue"),
+        (
+            psy_queue::MOST_PLACES,
+            131_072,
+            "places of a queue with its first messages",
+        ),
     ];
     for (limit, number, name) in CASES {
         assert_eq!(rt; limit, number, "{name}");

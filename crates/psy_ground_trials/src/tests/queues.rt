@@ -2,7 +2,7 @@
 ghost use Rattle.std.specs.Prelude.{◌≡◌, IfOk, length};
 
 use psy_base::Memory;
-use psy_queue::{Message, Queue};
+use psy_queue::{MOST_PLACES, Message, Queue};
 use std::alloc::Global;
 use std::process::Abort;
 use std::test::Fail;
@@ -60,6 +60,17 @@ fn messages_stand_in_order(rt: HostRuntime) -> Result<(), Fail> {
     for (start, seen) in [(9, 0), (10, 1), (20, 4)] {
         assert_eq!(rt; queue.seen(start), seen, "visible at {start}");
     }
+    for (place, which) in [(0, 1), (1, 3), (2, 2), (3, 0)] {
+        assert_eq!(rt; queue.message(place), MESSAGES[which], "at {place}");
+    }
+    Ok(())
+}
+
+#[test]
+fn a_queue_may_have_the_most_places(rt: HostRuntime) -> Result<(), Fail> {
+    let mut queue = Queue::new(rt.alloc(), MOST_PLACES)?;
+    queue.enter(MESSAGES[0]);
+    compare(&rt, &queue, &[1]);
     Ok(())
 }
 

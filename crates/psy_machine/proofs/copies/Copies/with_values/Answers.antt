@@ -1,0 +1,11 @@
+-- What is left of the proof of `copies::Copies::with_values`.
+use Rattle.std.proofs.Common.{◌≡◌, List, ap, subst, ◌∙◌}
+use Rattle.std.specs.Prelude.{IfOk}
+use Rattle.psy_code.specs.Execution.{Copy}
+use Rattle.psy_machine.specs.Copying.{copies_in}
+use Rattle.psy_machine.proofs.Entries.{copies_in-zip}
+use Rattle.psy_machine.proofs.copies.Copies.with_values.Goals as goal
+
+pub returns : goal.returns
+returns c =
+    subst (λ (copies : List Copy). IfOk c.of.result (λ made. made ≡ copies)) (ap copies_in c.in_ok-entries_with.ensures ∙ copies_in-zip c.args.inits.now c.args.values.now) c.of.ensures

@@ -1,0 +1,3 @@
+-- The lemmas of this crate, by subject.
+pub mod Remainders
+mod Written

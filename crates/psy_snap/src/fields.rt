@@ -1,0 +1,112 @@
+//! The numbers of a state: each is read at the front of the bytes, or it is at fault there.
+ghost use Rattle.std.specs.Prelude.{◌≡◌, ◌<◌, ◌≤◌, IfOk, false, length, take, true};
+ghost use Rattle.std.specs.Int.{from_le_bytes, w32, w64};
+ghost use Rattle.psy_snap.specs.Cuts.{any_number, flag_after, long_below, one_of, up_to};
+ghost use Rattle.psy_snap.specs.declared.fault.ReadError.TheVariants.{Bad};
+ghost use Rattle.psy_snap.specs.Reading.{Gives, field_at, word_at};
+
+use crate::fault::ReadError;
+
+/// A field that is missing, cut or out of its range where so many bytes are left.
+fn bad(left: usize) -> ReadError
+    ensures { result ≡ Bad 1 left }
+{
+    ReadError::Bad { number: 1, left }
+}
+
+fn four(bytes: &[u8]) -> u32
+    requires { 4 ≤ length bytes.now }
+    ensures { result ≡ from_le_bytes w32 (take 4 bytes.now) }
+{
+    u32::from_le_bytes([bytes[0], bytes[1], bytes[2], bytes[3]])
+}
+
+fn eight(bytes: &[u8]) -> u64
+    requires { 8 ≤ length bytes.now }
+    ensures { result ≡ from_le_bytes w64 (take 8 bytes.now) }
+{
+    u64::from_le_bytes([
+        bytes[0], bytes[1], bytes[2], bytes[3], bytes[4], bytes[5], bytes[6], bytes[7],
+    ])
+}
+
+/// Four bytes as a number.
+fn word(bytes: &[u8]) -> Result<(u32, &[u8]), ReadError>
+    ensures { Gives (λ x. (x.0, x.1.now)) result (word_at false bytes.now) }
+{
+    if bytes.len() < 4 {
+        return Err(bad(bytes.len()));
+    }
+    let (_, rest) = bytes.split_at(4);
+    Ok((four(bytes), rest))
+}
+
+/// Eight bytes as a number.
+fn long(bytes: &[u8]) -> Result<(u64, &[u8]), ReadError>
+    ensures { Gives (λ x. (x.0, x.1.now)) result (word_at true bytes.now) }
+{
+    if bytes.len() < 8 {
+        return Err(bad(bytes.len()));
+    }
+    let (_, rest) = bytes.split_at(8);
+    Ok((eight(bytes), rest))
+}
+
+/// Any number.
+#[tactic(auto, unfolding(crate::specs::Reading::field_at))]
+pub fn any(bytes: &[u8]) -> Result<(u32, &[u8]), ReadError>
+    ensures { Gives (λ x. (x.0, x.1.now)) result (field_at any_number bytes.now) }
+{
+    word(bytes)
+}
+
+/// A number up to this one.
+#[tactic(auto, unfolding(crate::specs::Reading::field_at))]
+pub fn up_to(most: u32, bytes: &[u8]) -> Result<(u32, &[u8]), ReadError>
+    ensures reads { Gives (λ x. (x.0, x.1.now)) result (field_at (up_to most) bytes.now) }
+    ensures range { IfOk result (λ x. x.0 ≤ most) }
+{
+    let (number, rest) = word(bytes)?;
+    if number > most {
+        return Err(bad(bytes.len()));
+    }
+    Ok((number, rest))
+}
+
+/// The number of one of so many.
+#[tactic(auto, unfolding(crate::specs::Reading::field_at))]
+pub fn one_of(count: u32, bytes: &[u8]) -> Result<(u32, &[u8]), ReadError>
+    ensures reads { Gives (λ x. (x.0, x.1.now)) result (field_at (one_of count) bytes.now) }
+    ensures range { IfOk result (λ x. x.0 < count) }
+{
+    let (number, rest) = word(bytes)?;
+    if number >= count {
+        return Err(bad(bytes.len()));
+    }
+    Ok((number, rest))
+}
+
+/// A long number below a limit.
+#[tactic(auto, unfolding(crate::specs::Reading::field_at))]
+pub fn long_below(limit: u64, bytes: &[u8]) -> Result<(u64, &[u8]), ReadError>
+    ensures reads { Gives (λ x. (x.0, x.1.now)) result (field_at (long_below limit) bytes.now) }
+    ensures range { IfOk result (λ x. x.0 < limit) }
+{
+    let (number, rest) = long(bytes)?;
+    if number >= limit {
+        return Err(bad(bytes.len()));
+    }
+    Ok((number, rest))
+}
+
+/// Whether a number follows: exactly where a count isn't 0.
+#[tactic(auto, unfolding(crate::specs::Reading::field_at))]
+pub fn flag_after(count: u64, bytes: &[u8]) -> Result<(u32, &[u8]), ReadError>
+    ensures { Gives (λ x. (x.0, x.1.now)) result (field_at (flag_after count) bytes.now) }
+{
+    let (flag, rest) = word(bytes)?;
+    if flag != u32::from(count != 0) {
+        return Err(bad(bytes.len()));
+    }
+    Ok((flag, rest))
+}
