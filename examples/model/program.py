@@ -74,6 +74,7 @@ class Agent:
     points: list
     body: list = field(default_factory=list)
     ways: object = None  # of its code, where it has code and no body
+    types: dict = field(default_factory=dict)  # of its variables and arrays
 
 
 @dataclass(eq=False)
@@ -237,7 +238,8 @@ class Parser:
         processor = self.number() if self.accept("processor") else 0
         self.budget = self.behind("budget", self.number)
         self.expect("{")
-        self.agent = Agent(clock, processor, self.declarations(), [Point(0, clock, self.budget)])
+        declared = self.declarations()
+        self.agent = Agent(clock, processor, declared, [Point(0, clock, self.budget)], types=self.types)
         self.expect("body")
         self.agent.body = self.block()
         self.program.agents[name] = self.agent

@@ -20,7 +20,8 @@ class Schedule:
     def run(self):
         pending = [[] for _ in self.history.program.processors()]
         coming = list(self.history.actions)
-        for cycle in range(self.history.until * self.quantum):
+        first = coming[0].start if coming else self.history.until
+        for cycle in range(first * self.quantum, self.history.until * self.quantum):
             while coming and coming[0].start * self.quantum <= cycle:
                 action = coming.pop(0)
                 pending[self.history.program.agents[action.agent].processor].append(action)

@@ -21,6 +21,10 @@ Earlier = (s : System) (order : ℕ → List ℕ) (until date cycles agent : ℕ
 abbrev pub Due : Type 0
 Due = (s : System) (order : ℕ → List ℕ) (until date agent : ℕ) (r : Action) → IsSupplied s order until → date ≤ until → Contains (history s date agent) r → r.deadline ≤ date → IsFinished s order (date * s.unit.quantum) r
 
+-- By its deadline an action is finished.
+abbrev pub Finished : Type 0
+Finished = (s : System) (order : ℕ → List ℕ) (until dates agent : ℕ) (r : Action) → IsSupplied s order until → Contains (history s dates agent) r → r.deadline ≤ until → IsFinished s order (r.deadline * s.unit.quantum) r
+
 -- No action has more cycles than its work.
 abbrev pub Within : Type 0
 Within = (s : System) (order : ℕ → List ℕ) (dates cycles agent : ℕ) (r : Action) → IsLawful s → 1 ≤ s.unit.quantum → Contains (history s dates agent) r → units r.agent r.number (turns_by s order cycles r.agent) ≤ work r

@@ -21,3 +21,5 @@ mod LookSplits
 mod OwnLooks
 mod UnitKept
 mod UnitDone
+mod Idle
+mod Skipped

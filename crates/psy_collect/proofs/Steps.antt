@@ -1,11 +1,11 @@
 -- The steps of a run: which is due, and how many are left.
-use Rattle.std.proofs.Common.{◌≡◌, ◌≢◌, ◌∙◌, refl, sym, ap, subst, ℕ, ◌+◌, ◌-◌, ◌*◌, ◌^◌, ◌<◌, ◌≤◌, ◌==◌, Bool, true, false, List, [], ◌∷◌, Option, None, length, get_or, eqb-true, inl, inr, arith}
+use Rattle.std.proofs.Common.{◌≡◌, ◌≢◌, ◌∙◌, refl, sym, ap, subst, ℕ, ◌+◌, ◌-◌, ◌*◌, ◌/◌, ◌^◌, ◌<◌, ◌≤◌, ◌==◌, Bool, true, false, List, [], ◌∷◌, Option, None, length, get_or, eqb-true, inl, inr, arith}
 use Rattle.std.specs.Prelude.{◌⊎◌, if◌then◌else◌, IfSome}
 use Rattle.std.specs.List.{list_any}
 use Rattle.std.proofs.lemmas.Bool.{cases_Bool, cases_lt}
 use Rattle.std.proofs.lemmas.Bool.Decides.{nat_tests}
 use Rattle.std.proofs.lemmas.List.{get_or_past}
-use Rattle.std.proofs.lemmas.Nat.{mul-le}
+use Rattle.std.proofs.lemmas.Nat.{div-mul-add, mul-le}
 use Rattle.psy_audit.specs.declared.said.Act.{Act}
 use Rattle.psy_base.specs.declared.limits.TheConstants.{QUANTUM}
 use Rattle.psy_collect.specs.Collected.{IsRunning, doing_of, steps_left}
@@ -15,7 +15,7 @@ use Rattle.psy_history.specs.Actions.{Action}
 use Rattle.psy_history.specs.History.{history}
 use Rattle.psy_history.specs.Processors.{processor_at, processors}
 use Rattle.psy_history.specs.Schedule.{Turn, is_of, units}
-use Rattle.psy_kernel.specs.Progress.{Progress, after_unit, cycles_on, had_unit, order, stage_of, system, turns_so_far}
+use Rattle.psy_kernel.specs.Progress.{Progress, after_unit, cycles_on, had_unit, order, stage_of, system, turns_so_far, up_to_date}
 use Rattle.psy_kernel.specs.declared.stage.Stage.TheVariants.{CycleDue, DateDue, UnitDue}
 
 -- ---- what is due
@@ -32,6 +32,34 @@ unit_due p cycle processor e = grind (arith, nat_tests)
 pub either_due : (p : Progress) (cycle processor : ℕ) → (stage_of p ≡ CycleDue cycle) ⊎ (stage_of p ≡ UnitDue cycle processor) → p.cycles ≢ p.dates * p.plan.unit.quantum
 either_due p cycle processor (inl e) = cycle_due p cycle e
 either_due p cycle processor (inr e) = unit_due p cycle processor e
+
+pub cycle_whole : (p : Progress) (cycle : ℕ) → stage_of p ≡ CycleDue cycle → p.units ≡ 0
+cycle_whole p cycle e = grind (arith, nat_tests)
+
+-- ---- the date of a cycle
+
+module _ (dates cycle quantum : ℕ) (inside : cycle < dates * quantum) where
+  -- Before a cycle some date was done.
+  pub some_dates : 1 ≤ dates
+  some_dates = elim (cases_lt 0 dates) [
+    | inl some ↦ omega (arith, some)
+    | inr none ↦ (let zero_is : dates ≡ 0 = omega (arith, none) in absurd (omega (arith, inside, ap (λ d. d * quantum) zero_is)))
+  ]
+
+  parts : dates * quantum ≡ (dates - 1) * quantum + quantum
+  parts = (let date_is : dates ≡ dates - 1 + 1 = omega (arith, some_dates) in ap (λ d. d * quantum) date_is ∙ (let e : (dates - 1 + 1) * quantum ≡ (dates - 1) * quantum + quantum = omega arith in e))
+
+  module _ (low : dates * quantum ≤ cycle + quantum) where
+    -- It comes behind the one done last.
+    pub behind_last : (dates - 1) * quantum ≤ cycle
+    behind_last = omega (arith, low, parts)
+
+    -- It sees the dates that were done.
+    pub in_date : cycle / quantum + 1 ≡ dates
+    in_date =
+        let rest : cycle ≡ (dates - 1) * quantum + (cycle - (dates - 1) * quantum) = omega (arith, behind_last) in
+        let q : cycle / quantum ≡ dates - 1 = ap (λ n. n / quantum) rest ∙ div-mul-add (dates - 1) quantum (cycle - (dates - 1) * quantum) (omega (arith, behind_last, inside, parts)) in
+        omega (arith, q, some_dates)
 
 -- ---- where a unit is due
 
@@ -56,6 +84,18 @@ module _ (p : Progress) (k : Kept) (running : IsRunning p k) (due : p.cycles ≢
   -- With a unit fewer steps are left.
   pub fewer : steps_left (after_unit p) < steps_left p
   fewer = left_by (p.units + 1 == processors p.plan.unit) refl
+
+-- Behind all cycles before the next date fewer steps are left.
+pub fewer_cycles : (p : Progress) (k : Kept) → IsRunning p k → p.cycles ≢ p.dates * p.plan.unit.quantum → steps_left (up_to_date p) < steps_left p
+fewer_cycles p k running due =
+    let n = processors p.plan.unit in
+    let end = p.plan.until * p.plan.unit.quantum in
+    let date = p.dates * p.plan.unit.quantum in
+    let most = mul-le p.dates p.plan.unit.quantum p.plan.until p.plan.unit.quantum running.early (omega arith) in
+    let more : (end - date) + 1 ≤ end - p.cycles = omega (arith, inside p k running due, most) in
+    let product = mul-le ((end - date) + 1) n (end - p.cycles) n more (omega arith) in
+    let parts : ((end - date) + 1) * n ≡ (end - date) * n + n = omega arith in
+    omega (arith, product, parts, running.begun)
 
 -- ---- bounds
 

@@ -1,11 +1,10 @@
 -- A run with one unit more, and what is kept of it.
-use Rattle.std.proofs.Common.{◌≡◌, ◌≢◌, ◌∙◌, refl, sym, ap, subst, ℕ, suc, ◌+◌, ◌-◌, ◌*◌, ◌/◌, ◌<◌, ◌≤◌, ◌==◌, List, [], ◌∷◌, ◌++◌, Option, Some, None, filter, map, length, get_or, reverse, inl, inr, append-nil, append_assoc, arith}
+use Rattle.std.proofs.Common.{◌≡◌, ◌≢◌, ◌∙◌, refl, sym, ap, subst, ℕ, suc, ◌+◌, ◌-◌, ◌*◌, ◌<◌, ◌≤◌, ◌==◌, List, [], ◌∷◌, ◌++◌, Option, Some, None, filter, map, length, get_or, reverse, inl, inr, append-nil, append_assoc, arith}
 use Rattle.std.specs.Prelude.{if◌then◌else◌, slice_set}
 use Rattle.std.specs.List.{All, Contains, flat_map}
-use Rattle.std.proofs.lemmas.Bool.{cases_eq, cases_lt, eq-eqb, ne_eqb}
+use Rattle.std.proofs.lemmas.Bool.{cases_eq, eq-eqb, ne_eqb}
 use Rattle.std.proofs.lemmas.List.{get_or-set_same, map-append}
 use Rattle.std.proofs.lemmas.List.Elements.{All-append, All-cons, All-nil, All-weaker, filter-append}
-use Rattle.std.proofs.lemmas.Nat.{div-mul-add}
 use Rattle.psy_lists.proofs.lemmas.Members.{contains_front}
 use Rattle.psy_audit.specs.declared.said.Act.{Act}
 use Rattle.psy_audit.specs.declared.said.Look.{Look}
@@ -21,6 +20,7 @@ use Rattle.psy_collect.proofs.Longer.{flat_reverse}
 use Rattle.psy_collect.proofs.OwnLooks.{seen_looks}
 use Rattle.psy_collect.proofs.Rows.{row_other, row_own}
 use Rattle.psy_collect.proofs.Runs.{Lawful, lawful, supplied}
+use Rattle.psy_collect.proofs.Steps.{behind_last, in_date, some_dates}
 use Rattle.psy_collect.proofs.Stretches.{idle, served as served_stretch}
 use Rattle.psy_collect.proofs.Turns.{IsGiven, agent_of, as_many, given_one}
 use Rattle.psy_collect.proofs.UnitLooks.{looks_others, none_of_before, none_of_others}
@@ -38,14 +38,8 @@ use Rattle.psy_kernel.specs.declared.seen.Seen.{Seen}
 use Rattle.psy_kernel.specs.Progress.{Progress, UnitOf, cycles_on, next_processor, order, system, turns_so_far}
 use Rattle.psy_kernel.specs.Units.{IsLookAt, IsLookBy, action_at, agent_of as agent_in, served_at}
 
--- ---- numbers
-
-quotient : (date cycle quantum : ℕ) → date * quantum ≤ cycle → cycle < date * quantum + quantum → cycle / quantum ≡ date
-quotient date cycle quantum low high =
-    let rest : cycle ≡ date * quantum + (cycle - date * quantum) = omega (arith, low) in
-    ap (λ n. n / quantum) rest ∙ div-mul-add date quantum (cycle - date * quantum) (omega (arith, low, high))
-
-doing_idle : (turns : List (Option Turn)) (actions : List Action) → doing_of (None ∷ turns) actions ≡ doing_of turns actions
+-- The last action of an agent has as many cycles as before where a cycle goes to nobody.
+pub doing_idle : (turns : List (Option Turn)) (actions : List Action) → doing_of (None ∷ turns) actions ≡ doing_of turns actions
 doing_idle turns [] = refl
 doing_idle turns (r ∷ before) = refl
 
@@ -69,29 +63,18 @@ module _ (p : Progress) (k : Kept) (running : IsRunning p k) (fits : IsPlan p.pl
   its_is : turns_on p processor ≡ its
   its_is = ap (λ c. turns_of s (order p) c processor) own
 
-  some_dates : 1 ≤ p.dates
-  some_dates = elim (cases_lt 0 p.dates) [
-    | inl some ↦ omega (arith, some)
-    | inr none ↦ (let zero_is : p.dates ≡ 0 = omega (arith, none) in absurd (omega (arith, inside, ap (λ d. d * p.plan.unit.quantum) zero_is)))
-  ]
-
   date_is : p.dates - 1 + 1 ≡ p.dates
-  date_is = omega (arith, some_dates)
+  date_is = (let some = some_dates p.dates cycle p.plan.unit.quantum inside in omega (arith, some))
 
   low : (p.dates - 1) * p.plan.unit.quantum ≤ cycle
-  low = (let parts : p.dates * p.plan.unit.quantum ≡ (p.dates - 1) * p.plan.unit.quantum + p.plan.unit.quantum = ap (λ d. d * p.plan.unit.quantum) (sym date_is) ∙ (let e : (p.dates - 1 + 1) * p.plan.unit.quantum ≡ (p.dates - 1) * p.plan.unit.quantum + p.plan.unit.quantum = omega arith in e) in
-      omega (arith, running.low, parts))
-
-  in_date : cycle / p.plan.unit.quantum + 1 ≡ p.dates
-  in_date = (let parts : p.dates * p.plan.unit.quantum ≡ (p.dates - 1) * p.plan.unit.quantum + p.plan.unit.quantum = ap (λ d. d * p.plan.unit.quantum) (sym date_is) ∙ (let e : (p.dates - 1 + 1) * p.plan.unit.quantum ≡ (p.dates - 1) * p.plan.unit.quantum + p.plan.unit.quantum = omega arith in e) in
-      let q = quotient (p.dates - 1) cycle p.plan.unit.quantum low (omega (arith, inside, parts)) in omega (arith, q, some_dates))
+  low = behind_last p.dates cycle p.plan.unit.quantum inside running.low
 
   -- The action that gets the cycle is the last of its agent.
   pub given_is : (r : Action) → action_at s (order p) processor cycle ≡ Some r → IsGiven s (order p) p.plan.until (supplied p running.whole fits inputs script well law) earlier p.dates cycle processor r
   given_is r at =
       subst (λ d. IsGiven s (order p) p.plan.until (supplied p running.whole fits inputs script well law) earlier d cycle processor r) date_is
       (given_one s (order p) p.plan.until (supplied p running.whole fits inputs script well law) earlier (p.dates - 1) cycle processor (omega (arith, running.early)) low r
-      (ap (λ d. soonest (pending (served s.unit processor (order p cycle)) its (history s d))) (date_is ∙ sym in_date) ∙ at))
+      (ap (λ d. soonest (pending (served s.unit processor (order p cycle)) its (history s d))) (date_is ∙ sym (in_date p.dates cycle p.plan.unit.quantum inside running.low)) ∙ at))
 
   -- ---- with these cycles and units
 

@@ -18,6 +18,7 @@ use Rattle.psy_history.specs.Processors.{processors}
 use Rattle.psy_history.specs.Schedule.{Turn, units}
 use Rattle.psy_history.specs.Scheduled.{turns_by, turns_of}
 use Rattle.psy_kernel.specs.Progress.{Progress, cycles_on, lines_told, order, system, turns_so_far}
+use Rattle.psy_kernel.specs.Slices.{IsIdleFor}
 
 -- What is shared shows what is published at the date done last: a ring of its size for each variable.
 pub record ShowsAll (plan : Plan) (date : ℕ) (shared : Shared) : Type 0 where
@@ -121,6 +122,10 @@ pub record IsSameRun (before after : Progress) : Type 0 where
   pub inputs : after.inputs ≡ before.inputs
   pub script : after.script ≡ before.script
   pub opening : after.opening ≡ before.opening
+
+-- No action is pending behind the cycles done.
+abbrev pub IsIdle : Progress → Type 0
+IsIdle p = (processor : ℕ) → IsIdleFor p processor
 
 -- All that is left to do is the last date.
 pub record IsLastDue (p : Progress) : Type 0 where

@@ -1,5 +1,5 @@
 -- What is kept of a run, and its text.
-use Rattle.std.specs.Prelude.{ℕ, ◌+◌, ◌-◌, ◌%◌, ◌==◌, ◌&&◌, Bool, false, if◌then◌else◌, List, [], ◌∷◌, ◌++◌, filter, length, get_or, map}
+use Rattle.std.specs.Prelude.{ℕ, ◌+◌, ◌-◌, ◌%◌, ◌==◌, ◌&&◌, Bool, true, false, if◌then◌else◌, List, [], ◌∷◌, ◌++◌, filter, length, get_or, map}
 use Rattle.std.specs.Prelude.{slice_set, Option, None, Some, pos}
 use Rattle.std.specs.List.{flat_map, range_with_len}
 use Rattle.psy_audit.specs.declared.said.Act.{Act}
@@ -164,6 +164,11 @@ act_in agent seat = record { agent = agent; number = seat.number; point = seat.p
 abbrev pub has_started : ℕ → Phase → ℕ → Bool
 has_started date phase.Waiting start = false
 has_started date phase start = start == date
+
+-- No action of the agent is under way.
+abbrev pub rests : Phase → Bool
+rests phase.Acting = false
+rests phase = true
 
 -- The last action of an agent, with how it ended
 abbrev pub ended_by : Ending → Option Act → List Act

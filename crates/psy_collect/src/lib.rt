@@ -2,6 +2,7 @@
 //! It may know kernels and the lines of traces; nothing of files and commands.
 #![tactic(auto)]
 
+mod cycles;
 mod dates;
 mod ends;
 mod fault;

@@ -9,6 +9,7 @@ ghost use Rattle.psy_kernel.specs.declared.stage.Stage.TheVariants.{DateDue};
 ghost use Rattle.psy_kernel.specs.Progress.{after_date, booted, order, stage_of, system};
 ghost use Rattle.psy_kernel.specs.Runs.{all_given, ended};
 
+use crate::cycles::keep_cycle;
 use crate::dates::{keep_overs, keep_publications, keep_starts};
 use crate::ends::{end_acts, end_segments};
 use crate::fault::CollectFault;
@@ -100,7 +101,7 @@ fn keep_step(kernel: &mut Kernel, kept: &mut Kept) -> Result<bool, Memory>
     match kernel.stage() {
         Stage::Over => unreachable!(),
         Stage::CycleDue(cycle) => {
-            keep_unit(kernel, kept, cycle)?;
+            keep_cycle(kernel, kept, cycle)?;
             Ok(false)
         }
         Stage::UnitDue(cycle, _) => {

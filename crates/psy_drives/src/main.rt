@@ -1,12 +1,15 @@
 //! Runs programs on several processors in each way in which a kernel may be brought from date to date: by ticks, slices, cycles and units.
-//! Says of each text how long it is, and whether it is the one that the loop of psyc writes; and tells the last of the runs unit by unit.
+//! Says of each text how long it is, and whether it is the one that the loop of psyc writes, and what the run leaves; and tells the last of the
+//! runs unit by unit.
 #![tactic(auto)]
 
 mod drive;
+mod left;
 mod runs;
 mod units;
 
 use drive::DRIVES;
+use left::tell_left;
 use psy_door::{FileShelf, Shelf, Sink, StdSink};
 use psy_log::write_all_of;
 use runs::text_asked;
@@ -43,7 +46,7 @@ fn verdict(alloc: Global, text: &[u8], wanted: &[u8]) -> Option<String> {
     format!(in alloc; "{} bytes, of which {same} are the same", text.len()).ok()
 }
 
-// Runs what the words ask for in each way, and says how it went. None where that can't be done.
+// Runs what the words ask for in each way, and says how it went and what it leaves. None where that can't be done.
 fn compare<F: Shelf, S: Sink>(
     alloc: Global,
     asked: &[String],
@@ -58,7 +61,9 @@ fn compare<F: Shelf, S: Sink>(
         let line = format!(in alloc; "{script} by {}: {said}\n", drive.name()).ok()?;
         write_all_of(out, line.as_bytes()).ok()?;
     }
-    Some(())
+    let line = format!(in alloc; "{script} leaves").ok()?;
+    write_all_of(out, line.as_bytes()).ok()?;
+    tell_left(alloc, asked, shelf, out)
 }
 
 // Does so for each of the runs that the words ask for, and tells the last of them unit by unit.

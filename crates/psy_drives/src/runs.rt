@@ -45,8 +45,8 @@ fn write_run<S: Sink>(kernel: &mut Kernel, drive: Drive, out: &mut S) -> Option<
     write_summary(kernel, out).ok()
 }
 
-// The text of a run: by a drive, or by the loop of psyc where none is told. None where it couldn't be written.
-fn text_of(alloc: Global, kernel: &mut Kernel, drive: Option<Drive>) -> Option<SinkVec>
+/// The text of a run: by a drive, or by the loop of psyc where none is told. None where it couldn't be written.
+pub fn text_of(alloc: Global, kernel: &mut Kernel, drive: Option<Drive>) -> Option<SinkVec>
     requires booted { kernel.old ≡ booted kernel.old.plan kernel.old.inputs kernel.old.script }
 {
     let mut out = SinkVec::new(alloc, ROOM, ROOM, Vec::new(alloc)).ok()?;

@@ -102,7 +102,7 @@ first_stands s code until agent runner waits charged new of_code idle empty unco
 
 -- ---- the processors before their first cycle
 
-none_waits : (agents agent : ℕ) → pending_deadline (replicate agents None) agent ≡ None
+pub none_waits : (agents agent : ℕ) → pending_deadline (replicate agents None) agent ≡ None
 none_waits zero agent = refl
 none_waits (suc agents) zero = refl
 none_waits (suc agents) (suc agent) = none_waits agents agent

@@ -1,6 +1,6 @@
 -- The cycle of a processor that comes next: who gets it, and what its action looks at.
 use Rattle.std.proofs.Common.{◌≡◌, refl, sym, ap, ◌∙◌, subst, arith}
-use Rattle.std.specs.Prelude.{ℕ, ◌+◌, ◌-◌, ◌*◌, ◌/◌, ◌<◌, ◌≤◌, List, [], Option, Some, None, IsSome, get_or, length, slice_get}
+use Rattle.std.specs.Prelude.{ℕ, ◌+◌, ◌-◌, ◌/◌, ◌<◌, List, [], Option, Some, None, IsSome, get_or, length, slice_get}
 use Rattle.std.proofs.lemmas.Option.{same_Some, slice_get-get_or}
 use Rattle.psy_budget.specs.declared.charge.Tick.{Tick}
 use Rattle.psy_budget.specs.declared.charge.Tick.TheVariants as tick
@@ -11,19 +11,19 @@ use Rattle.psy_code.specs.Views.{Call, Past, PermitsAll, Ready, Send, Take, Wind
 use Rattle.psy_dates.specs.Outboxes.{Outboxed}
 use Rattle.psy_dates.specs.Standing.{dates_done}
 use Rattle.psy_dates.specs.declared.seat.Seat.{Seat}
-use Rattle.psy_history.specs.Actions.{Action, System}
+use Rattle.psy_history.specs.Actions.{Action}
 use Rattle.psy_history.specs.History.{history}
-use Rattle.psy_history.specs.Processors.{processor_at, served}
+use Rattle.psy_history.specs.Processors.{served}
 use Rattle.psy_history.specs.Regular.{begun_by}
-use Rattle.psy_history.specs.Schedule.{Turn, pending, soonest, turn_of, units, work}
+use Rattle.psy_history.specs.Schedule.{Turn, pending, soonest, turn_of, units}
 use Rattle.psy_history.specs.Scheduled.{turns_of}
 use Rattle.psy_history.specs.Scripts.{stalls_of}
 use Rattle.psy_machine.specs.Stepping.{look_of}
 use Rattle.psy_meaning.specs.CodeWays.{agent_code_at}
 use Rattle.psy_meaning.proofs.lemmas.Running.{same_running}
 use Rattle.psy_ready.specs.Choice.{IsPick}
-use Rattle.psy_kernel.specs.Acting.{InAction, IsLookIn, LooksBy, ShowsAs}
-use Rattle.psy_kernel.specs.Cycles.{IsGiven, IsNear}
+use Rattle.psy_kernel.specs.Acting.{InAction, IsLookIn, LooksBy}
+use Rattle.psy_kernel.specs.Cycles.{IsGiven}
 use Rattle.psy_kernel.specs.Seeing.{Sight, sight_in, view_in, window_in}
 use Rattle.psy_kernel.specs.Standing.{EngineStands, IsChosen, IsRunning, MachineIn, charge_after}
 use Rattle.psy_kernel.specs.Units.{IsLookAt, IsLookBy, IsLookOf, MaySee, action_at, agent_of, served_at}

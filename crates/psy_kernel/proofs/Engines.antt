@@ -291,6 +291,7 @@ module _ (k : Inside) (processor : ℕ) (server next : Server) (n : ℕ) (server
         plan = is.plan;
         inputs = is.inputs;
         script = is.script;
+        parts = is.parts;
         sound = is.sound;
         behind = is.behind;
         served = ap length moved_is ∙ gone.count ∙ is.served;

@@ -100,7 +100,7 @@ module _ (plan : Plan) (opening : Opening) (inputs : List (List ℤ)) (stalls : 
       (r.deeds ≡ (came_to plan.code r).deeds) × (r.after ≡ (came_to plan.code r).carried) × (r.charge ≡ charge_of s r.agent r.number r.deeds.steps)
       × (r.verdict ≡ verdict_of (timing s r.agent) r.start r.budget r.charge (came_to plan.code r).fate)
 
-  told : (dates agent : ℕ) (before : List Action) (r : Action) → WasStarted s dates agent before r → IsTold r
+  pub told : (dates agent : ℕ) (before : List Action) (r : Action) → WasStarted s dates agent before r → IsTold r
   told dates agent before r w = subst IsTold (sym w.made) (refl, refl, refl, refl)
 
   module _ (script : Script) (of : IsScript plan.unit script) (supply : IsSupplied s (order_of plan.unit script) plan.until) (date cycle : ℕ) (inside : date < plan.until) (low : date * plan.unit.quantum ≤ cycle) (high : cycle < (date + 1) * plan.unit.quantum) where

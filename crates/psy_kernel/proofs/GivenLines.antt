@@ -41,6 +41,7 @@ stands_at k place shown given w within unshown is before = record {
   plan = w.plan;
   inputs = w.inputs;
   script = w.script;
+  parts = w.parts;
   sound = w.sound;
   behind = w.behind;
   before = before;

@@ -17,7 +17,7 @@ use Rattle.psy_kernel.specs.Standing.{InTick}
 use Rattle.psy_kernel.specs.declared.kernel.Kernel.TheInside.{Inside}
 use Rattle.psy_kernel.proofs.Booted.{replicated_at}
 
-some_processor : (unit : Whole) → 0 < processors unit
+pub some_processor : (unit : Whole) → 0 < processors unit
 unfolding processors
 some_processor unit = omega arith
 

@@ -1,20 +1,18 @@
 -- The unit that was done last, and what is shared behind it.
-use Rattle.std.proofs.Common.{◌≡◌, refl, sym, ap, ◌∙◌, subst, arith}
-use Rattle.std.specs.Prelude.{ℕ, ◌+◌, ◌<◌, ◌==◌, Bool, true, false, if◌then◌else◌, List, Option, None, Some, slice_get}
+use Rattle.std.proofs.Common.{◌≡◌, refl, sym, ap, subst, arith}
+use Rattle.std.specs.Prelude.{ℕ, ◌+◌, ◌<◌, ◌==◌, Bool, true, false, if◌then◌else◌, List, Option, None, Some}
 use Rattle.std.proofs.lemmas.Option.{slice_get-get_or}
-use Rattle.psy_dates.specs.declared.plan.Plan.{Plan}
 use Rattle.psy_dates.specs.declared.shared.Shared.{Shared}
 use Rattle.psy_dates.specs.Standing.{SharedStands}
 use Rattle.psy_history.specs.Processors.{processor_at, processors}
 use Rattle.psy_history.specs.Schedule.{Turn}
 use Rattle.psy_history.specs.Scheduled.{turns_of}
-use Rattle.psy_kernel.specs.Engines.{EngineState, done_on, history_of, ties, turns_done}
+use Rattle.psy_kernel.specs.Engines.{done_on, history_of, ties, turns_done}
 use Rattle.psy_kernel.specs.Kernels.{KernelStands, LastStands, progress_of, unit_of}
-use Rattle.psy_kernel.specs.Progress.{IsSeenIn, Progress, UnitOf, counted, cycles_on, next_processor, order, ran_in, system, turns_so_far}
+use Rattle.psy_kernel.specs.Progress.{IsSeenIn, Progress, counted, order, ran_in, system, turns_so_far}
 use Rattle.psy_kernel.specs.Units.{IsLookAt, served_at}
 use Rattle.psy_kernel.specs.declared.kernel.Kernel.TheInside.{Inside}
 use Rattle.psy_kernel.specs.declared.kernel.LastUnit.{LastUnit}
-use Rattle.psy_kernel.specs.declared.seen.Seen.{Seen}
 
 -- ---- what is known of it
 

@@ -70,6 +70,21 @@ in_force_is declared (o ∷ orders) (suc passed) cycle h =
 
 -- ---- a later cycle
 
+-- Where the next order comes later than a cycle, so do all that haven't come into force.
+pub rest_later : (orders : List Order) → AllPairs (λ (o : Order) (p : Order). o.cycle < p.cycle) orders → (passed cycle : ℕ)
+    → ((o : Order) → slice_get orders passed ≡ Some o → cycle < o.cycle)
+    → (place : ℕ) (o : Order) → slice_get orders place ≡ Some o → passed ≤ place → cycle < o.cycle
+rest_later orders rise passed cycle ahead place o at more = elim (cases_eq place passed) [
+  | inl same ↦ ahead o (ap (slice_get orders) (sym same) ∙ at)
+  | inr other ↦
+      (let low : passed < place = grind (arith, other, more) in
+      let within : passed < length orders = omega (arith, slice_get_within orders place o at, low) in
+      let first = slice_get-get_or orders passed o within in
+      let rises = rise passed place o low (slice_get_within orders place o at) in
+      let last = ap (λ (q : Order). q.cycle) (get_or_from_slice_get orders place o o at) in
+      omega (arith, rises, last, ahead (get_or orders passed o) first))
+]
+
 module _ (orders : List Order) (rise : AllPairs (λ (o : Order) (p : Order). o.cycle < p.cycle) orders) (passed cycle : ℕ) (h : AreInForce orders passed cycle) where
   -- an order behind another comes later
   later : (place more : ℕ) (o p : Order) → slice_get orders place ≡ Some o → slice_get orders more ≡ Some p → place < more → o.cycle < p.cycle

@@ -56,13 +56,13 @@ left_out : (p : Action → Bool) (r : Action) (rs : List Action) (b : Bool) → 
 left_out p r rs true e = rw e refl
 left_out p r rs false e = refl
 
-settled_before : (turns : List (Option Turn)) (until : ℕ) (r : Action) (before : List Action) → is_pending turns r ≡ true → settled turns until (r ∷ before) ≡ settled turns until before
+pub settled_before : (turns : List (Option Turn)) (until : ℕ) (r : Action) (before : List Action) → is_pending turns r ≡ true → settled turns until (r ∷ before) ≡ settled turns until before
 settled_before turns until r before e = left_out (λ q. not (is_pending turns q)) r (due_by until before) (nat_le r.deadline until) (ap not e)
 
 -- ---- an agent without actions
 
 -- It starts none.
-none_starts : (quiet : Bool) (before date : ℕ) (turns : List (Option Turn)) (seat : Seat) → IsSeated quiet before date turns [] seat → starts_at date seat ≡ false
+pub none_starts : (quiet : Bool) (before date : ℕ) (turns : List (Option Turn)) (seat : Seat) → IsSeated quiet before date turns [] seat → starts_at date seat ≡ false
 none_starts false before date turns seat waits = rw waits refl
 none_starts true before date turns seat rests = let silent : seat.phase ≡ phase.Silent = rests.phase in rw silent refl
 
@@ -118,7 +118,7 @@ module _ (unit : Whole) (code : Code) (nexts : List (List (List ℕ))) (opening 
   abbrev of_code : System
   of_code = record (coded unit code nexts stalls inputs) { opening = opening }
 
-  begins_first : (agent : ℕ) (machine : AgentMachine) (n : Next) → IsNew code agent machine → first_action unit nexts (by_code code) agent ≡ n → machine.machine ≡ machine_at (agent_code_at code agent) n.point n.carried
+  pub begins_first : (agent : ℕ) (machine : AgentMachine) (n : Next) → IsNew code agent machine → first_action unit nexts (by_code code) agent ≡ n → machine.machine ≡ machine_at (agent_code_at code agent) n.point n.carried
   begins_first agent machine n new first =
       let its = new.0 in
       let at : agent_code_at code agent ≡ its = get_or_from_slice_get code.agents agent its (record { points = []; cells = []; counters = 0; copies = []; stack = 0; frames = 0 }) new.1 in

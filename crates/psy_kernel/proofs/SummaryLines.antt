@@ -45,7 +45,7 @@ module _ (k : Inside) (w : EngineStands k) (done : dates_done k.shared.date ≡ 
   turns agent = turns_by s (order_in k) (until * s.unit.quantum) agent
 
   -- each processor did all its cycles
-  all_turns : (agent : ℕ) → turns_in k agent ≡ turns agent
+  pub all_turns : (agent : ℕ) → turns_in k agent ≡ turns agent
   all_turns agent =
       let processor = processor_at k.plan.unit agent in
       let server = server_there k.servers.items processor (omega (arith, home agent, w.served)) in
@@ -55,7 +55,7 @@ module _ (k : Inside) (w : EngineStands k) (done : dates_done k.shared.date ≡ 
 
   -- ---- variables
 
-  reach_told : SameReach → (variable : ℕ) → variable < length s.unit.variables → get_or k.reaches.items variable None ≡ reach s turns (history s (until + 1)) variable
+  pub reach_told : SameReach → (variable : ℕ) → variable < length s.unit.variables → get_or k.reaches.items variable None ≡ reach s turns (history s (until + 1)) variable
   reach_told same variable l =
       w.reached variable (get_or k.reaches.items variable None) (slice_get-get_or k.reaches.items variable None (omega (arith, l, w.reaching)))
       ∙ same s (turns_in k) turns (history s (dates_done k.shared.date)) variable all_turns
@@ -66,7 +66,7 @@ module _ (k : Inside) (w : EngineStands k) (done : dates_done k.shared.date ≡ 
 
   -- ---- streams
 
-  held_told : (stream : ℕ) → stream < length s.unit.streams → get_or k.helds.items stream 0 ≡ most_held s until stream
+  pub held_told : (stream : ℕ) → stream < length s.unit.streams → get_or k.helds.items stream 0 ≡ most_held s until stream
   held_told stream l =
       w.held stream (get_or k.helds.items stream 0) (slice_get-get_or k.helds.items stream 0 (omega (arith, l, w.holding)))
       ∙ ap (λ n. most_held_in s n stream) (done ∙ add-one until)
@@ -85,20 +85,21 @@ module _ (k : Inside) (w : EngineStands k) (done : dates_done k.shared.date ≡ 
     all_settled agent =
         settled_all (turns agent) until (actions agent) (date_settled s (order_in k) until agent lawful (λ r. due agent r (supplied (state_of k) w.plan w.script lawful)))
 
+    pub count_told : (agent : ℕ) (runner : Runner) → slice_get k.runners.items agent ≡ Some runner → runner.figure.count ≡ due_count s agent (due_by until (actions agent))
+    count_told agent runner at =
+        (w.agents agent runner at).counted ∙ ap (λ ts. due_count s agent (settled ts until (history s (dates_done k.shared.date) agent))) (all_turns agent)
+        ∙ ap (λ n. due_count s agent (settled (turns agent) until (history s n agent))) done ∙ ap (due_count s agent) (all_settled agent)
+
+    pub least_told : (agent : ℕ) (runner : Runner) → slice_get k.runners.items agent ≡ Some runner → runner.figure.slack ≡ least_slack s (turns agent) agent (due_by until (actions agent))
+    least_told agent runner at =
+        (w.agents agent runner at).slacked ∙ ap (λ ts. least_slack s ts agent (settled ts until (history s (dates_done k.shared.date) agent))) (all_turns agent)
+        ∙ ap (λ n. least_slack s (turns agent) agent (settled (turns agent) until (history s n agent))) done ∙ ap (least_slack s (turns agent) agent) (all_settled agent)
+
     figure_told : (agent : ℕ) (runner : Runner) → slice_get k.runners.items agent ≡ Some runner
         → agent_line (agent_at s.unit agent).name runner.figure.count runner.figure.slack ≡ agent_end s turns until agent
     figure_told agent runner at =
-        let figure = runner.figure in
-        let stands = w.agents agent runner at in
-        let count : figure.count ≡ due_count s agent (settled (turns agent) until (actions agent)) =
-        stands.counted ∙ ap (λ ts. due_count s agent (settled ts until (history s (dates_done k.shared.date) agent))) (all_turns agent)
-        ∙ ap (λ n. due_count s agent (settled (turns agent) until (history s n agent))) done in
-        let least : figure.slack ≡ least_slack s (turns agent) agent (settled (turns agent) until (actions agent)) =
-        stands.slacked ∙ ap (λ ts. least_slack s ts agent (settled ts until (history s (dates_done k.shared.date) agent))) (all_turns agent)
-        ∙ ap (λ n. least_slack s (turns agent) agent (settled (turns agent) until (history s n agent))) done in
         let name = (agent_at s.unit agent).name in
-        ap (λ n. agent_line name n figure.slack) (count ∙ ap (due_count s agent) (all_settled agent))
-        ∙ ap (agent_line name (due_count s agent (due_by until (actions agent)))) (least ∙ ap (least_slack s (turns agent) agent) (all_settled agent))
+        ap (λ n. agent_line name n runner.figure.slack) (count_told agent runner at) ∙ ap (agent_line name (due_count s agent (due_by until (actions agent)))) (least_told agent runner at)
 
     agent_told : (agent : ℕ) → agent < length s.unit.agents → figure_line k.plan.unit k.runners.items agent ≡ agent_end s turns until agent
     agent_told agent l =

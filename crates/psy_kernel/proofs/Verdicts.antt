@@ -55,7 +55,7 @@ module _ (s : System) (code : Code) (r : Action) (w : IsOfCode s code r) where
 
   -- ---- its cost and charge
 
-  in_budget : came_to code r ≡ acted_as r.budget r.before (run_code code its start runs.steps)
+  pub in_budget : came_to code r ≡ acted_as r.budget r.before (run_code code its start runs.steps)
   in_budget = elim is_whole.ends [
     | inl over ↦ ap (acted_as r.budget r.before) (stays_over code its runs.last runs.steps r.budget start is_whole.within over)
     | inr spent ↦ ap (λ n. acted_as r.budget r.before (run_code code its start n)) (sym spent.0)

@@ -1,5 +1,5 @@
 -- How far the processors of a run are, each by itself: between two dates one may have done more cycles than another.
-use Rattle.std.specs.Prelude.{◌≡◌, ◌⊎◌, ℕ, zero, suc, ◌-◌, ◌*◌, true, false, nat_lt, if◌then◌else◌}
+use Rattle.std.specs.Prelude.{◌≡◌, ◌⊎◌, ℕ, zero, suc, ◌+◌, ◌-◌, ◌*◌, true, false, nat_lt, if◌then◌else◌}
 use Rattle.std.specs.Prelude.{List, [], get_or, replicate, Option, None, Some, slice_get, ℤ}
 use Rattle.std.specs.List.{Contains}
 use Rattle.psy_history.specs.Actions.{Action, Opening, System}
@@ -46,6 +46,14 @@ ties e = order_of e.plan.unit e.script
 abbrev pub begun : Plan → List (List ℤ) → Script → EngineState
 begun plan inputs script =
     record { plan = plan; inputs = inputs; script = script; opening = None; dates = 0; done = replicate (processors plan.unit) 0; given = 0 }
+
+-- The same behind the date of a state, where all cycles before that date were done
+abbrev pub begun_behind : Plan → List (List ℤ) → Script → State → EngineState
+begun_behind plan inputs script state = record (begun plan inputs script) {
+  opening = Some state;
+  dates = state.date + 1;
+  done = replicate (processors plan.unit) (state.date * plan.unit.quantum);
+}
 
 -- The first cycle of the date that comes next
 abbrev pub next_date : EngineState → ℕ

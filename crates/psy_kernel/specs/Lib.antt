@@ -2,9 +2,11 @@
 pub mod Acting
 pub mod Cycles
 pub mod Engines
+pub mod Freezing
 pub mod Kernels
 pub mod Looking
 pub mod Progress
+pub mod Resuming
 pub mod Runs
 pub mod Seeing
 pub mod Slices

@@ -55,6 +55,15 @@ order p = order_of p.plan.unit p.script
 abbrev pub booted : Plan → List (List ℤ) → Script → Progress
 booted plan inputs script = record { plan = plan; inputs = inputs; script = script; opening = None; dates = 0; cycles = 0; units = 0; given = 0; last = None }
 
+-- Nothing was done behind the date of a state, nor, where there is none, before date 0.
+abbrev pub began : Plan → List (List ℤ) → Script → Option State → Progress
+began plan inputs script None = booted plan inputs script
+began plan inputs script (Some state) = record (booted plan inputs script) {
+  opening = Some state;
+  dates = state.date + 1;
+  cycles = state.date * plan.unit.quantum;
+}
+
 -- The processor whose unit of the cycle that comes next is due: the next one of the round in force
 abbrev pub next_processor : Progress → ℕ
 next_processor p = get_or (round_of p.plan.unit p.script p.cycles) p.units 0

@@ -17,6 +17,7 @@ use Rattle.psy_history.specs.Schedule.{Turn, is_pending, units}
 use Rattle.psy_history.specs.Summary.{due_by, due_count, least_slack, most_held, reach}
 use Rattle.psy_history.specs.Compiled.{AreInputs}
 use Rattle.psy_history.specs.Regular.{begun_by}
+use Rattle.psy_dates.specs.declared.opening.Opening.{Opening as State}
 use Rattle.psy_dates.specs.Outboxes.{Outboxed}
 use Rattle.psy_dates.specs.Plans.{IsPlan, IsSoundFor}
 use Rattle.psy_dates.specs.Standing.{SharedStands, dates_done}
@@ -176,13 +177,24 @@ waits_on unit servers agent = pending_deadline (ready_of (slice_get servers (pro
 
 -- ---- the engine
 
+-- A state has as many agents, variables and streams as the program; where there is none, nothing is asked.
+pub record HasParts (unit : Whole) (state : State) : Type 0 where
+  pub agents : length state.agents ≡ length unit.agents
+  pub variables : length state.variables ≡ length unit.variables
+  pub streams : length state.streams ≡ length unit.streams
+
+abbrev pub HasPartsIn : Whole → Option State → Type 0
+HasPartsIn unit None = ⊤
+HasPartsIn unit (Some state) = HasParts unit state
+
 -- The engine stands for the history of its plan's code, with its inputs and script, from where the run begins up to the date done last, and for what
 -- the cycles done of each processor went to.
 pub record EngineStands (k : Inside) : Type 0 where
   pub plan : IsPlan k.plan
   pub inputs : AreInputs k.plan.unit k.shared.inputs.lists
   pub script : IsScript k.plan.unit k.script
-  -- it begins soundly, with what was done before
+  -- it begins soundly, with what was done before, in a state of as many parts
+  pub parts : HasPartsIn k.plan.unit k.opening
   pub sound : IsSoundFor k.plan (opening_of (state_of k)) k.shared.inputs.lists (stalls_of k.script)
   pub behind : (opening_of (state_of k)).dates ≤ dates_done k.shared.date
   pub served : length k.servers.items ≡ processors k.plan.unit

@@ -6,11 +6,14 @@ mod boot;
 mod coming;
 mod cycle;
 mod date;
+mod freeze;
 mod idle;
 mod lines;
+mod open;
 mod stretch;
 mod summary;
 
+pub(crate) use open::cycles_before;
 use psy_budget::Charge;
 use psy_dates::{Opening, Plan, Shared};
 use psy_history::laws::one_of_them;

@@ -2,8 +2,10 @@
 
 mod boot;
 mod date;
+mod freeze;
 mod last;
 mod lines;
+mod open;
 mod round;
 mod slice;
 mod stage;

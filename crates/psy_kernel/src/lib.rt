@@ -5,11 +5,13 @@
 
 mod engine;
 mod eyes;
+mod fault;
 mod kernel;
 pub mod laws;
 mod seen;
 mod stage;
 
+pub use fault::FreezeFault;
 pub use kernel::Kernel;
 pub use psy_budget::Stall;
 pub use seen::Seen;

@@ -27,8 +27,8 @@ use Rattle.psy_plan.specs.Courses.{in_row as plan_in_row}
 use Rattle.psy_plan.specs.Supplies.{IsSupply, Supply}
 use Rattle.psy_plan.specs.Supplies as supplies
 use Rattle.psy_run.specs.Accepted.{IsRunnable}
-use Rattle.psy_run.specs.Answer.{Answers, refused, served, compiling, supplying, supplying_by, listing, scripting, running, trying, executing, serving, answering}
-use Rattle.psy_run.specs.Asked.{Asks, Command, Run, Check, Graph, Make, Trial, Build, Exec, Audit}
+use Rattle.psy_run.specs.Answer.{Answers, refused, served, compiling, supplying, supplying_by, listing, scripting, running, trying, executing, tracing, serving, answering}
+use Rattle.psy_run.specs.Asked.{Asks, Command, Run, Check, Graph, Make, Trial, Build, Exec, Audit, Trace}
 use Rattle.psy_run.specs.Bounds.{IsBounded, IsBorneOut, KeepsBounds}
 use Rattle.psy_run.specs.Courses.{in_row}
 use Rattle.psy_run.specs.Planned.{IsStatedPlan}
@@ -101,6 +101,12 @@ module _ (hold : RunsHold) where
       subst IsBounded (sym is)
       (supplied_bounded unit until supply lists said (compiled hold.of_text files name unit made) supplied (listed_inputs files unit inputs lists listed) (told_script files unit script said told))
 
+  tracing_bounded : (files : Option Files) (name : List ℕ) (until : ℕ) (inputs script : Option (List ℕ)) (done : Service) → (tracing files name until inputs script).gives done → IsBounded done
+  unfolding in_row
+  tracing_bounded files name until inputs script done (unit, made, (supply, supplied, (lists, listed, (said, told, (paced, few, (fits, short, is)))))) =
+      subst IsBounded (sym is)
+      (supplied_bounded unit until supply lists said (compiled hold.of_text files name unit made) supplied (listed_inputs files unit inputs lists listed) (told_script files unit script said told))
+
   trying_bounded : (seed until : ℕ) (done : Service) → (trying seed until).gives done → IsBounded done
   unfolding in_row
   trying_bounded seed until done (unit, made, (supply, supplied, (paced, fits, is))) =
@@ -130,6 +136,7 @@ module _ (hold : RunsHold) where
   serving_bounded files (Build name) done (unit, made, (image, imaged, is)) = subst IsBounded (sym is) tt
   serving_bounded files (Exec name until inputs script) done gives = executing_bounded files name until inputs script done gives
   serving_bounded files (Audit name until trace script) done (unit, made, (supply, supplied, (text, read, (said, told, (paced, fits, (counts, judged, is)))))) = subst IsBounded (sym is) tt
+  serving_bounded files (Trace name until inputs script) done gives = tracing_bounded files name until inputs script done gives
 
   pub answering_bounded : (words : List (List ℕ)) (files : Option Files) (done : Service) → (answering words files).gives done → IsBounded done
   unfolding in_row
@@ -150,6 +157,7 @@ module _ (of_text : TextsHold) (met : SuppliesHold) where
   serving_borne_out files (Build name) done (unit, made, (image, imaged, is)) = subst IsBorneOut (sym is) tt
   serving_borne_out files (Exec name until inputs script) done (bytes, read, (it, spelled, (ways, checked, (supply, supplied, (lists, listed, (said, told, (paced, fits, is))))))) = subst IsBorneOut (sym is) tt
   serving_borne_out files (Audit name until trace script) done (unit, made, (supply, supplied, (text, read, (said, told, (paced, fits, (counts, judged, is)))))) = subst IsBorneOut (sym is) tt
+  serving_borne_out files (Trace name until inputs script) done (unit, made, (supply, supplied, (lists, listed, (said, told, (paced, few, (fits, short, is)))))) = subst IsBorneOut (sym is) tt
 
   pub answering_borne_out : (words : List (List ℕ)) (files : Option Files) (done : Service) → (answering words files).gives done → IsBorneOut done
   unfolding in_row

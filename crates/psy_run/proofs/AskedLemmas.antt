@@ -6,7 +6,7 @@ use Rattle.std.proofs.lemmas.Option.{cond_some, option_and_then_some}
 use Rattle.psy_base.specs.declared.limits.TheConstants.{UNTIL}
 use Rattle.psy_lists.proofs.lemmas.Texts.{same_text}
 use Rattle.psy_text.specs.Words.{number_of}
-use Rattle.psy_run.specs.Asked.{IsDate, IsSeed, Command, Run, Check, Graph, Make, Trial, Build, Exec, Audit, Asks, asks_run, asks_run_with_inputs, asks_run_with_script, asks_check, asks_graph, asks_make, asks_trial, asks_build, asks_exec, asks_exec_with_inputs, asks_exec_with_script, asks_audit, asks_audit_with_script, AskNothing}
+use Rattle.psy_run.specs.Asked.{IsDate, IsSeed, Command, Run, Check, Graph, Make, Trial, Build, Exec, Audit, Trace, Asks, asks_run, asks_run_with_inputs, asks_run_with_script, asks_check, asks_graph, asks_make, asks_trial, asks_build, asks_exec, asks_exec_with_inputs, asks_exec_with_script, asks_audit, asks_audit_with_script, asks_trace, asks_trace_with_inputs, asks_trace_with_script, AskNothing}
 
 -- What is made from the items from one place on, item by item
 pub map-next : {X Y : Type 0} {x : X} {y : Y} {ys : List Y} (f : X → Y) (xs : List X) (k : ℕ) → k < length xs → x ≡ get_or xs k x → y ≡ f x → map f (drop (suc k) xs) ≡ ys → map f (drop k xs) ≡ y ∷ ys
@@ -77,16 +77,19 @@ command_of (first ∷ word ∷ date ∷ []) = option_and_then (λ until.
     else if bytes_eq first (codes "exec") then Some (Exec word until None None)
     else if bytes_eq first (codes "check") then Some (Check word until)
     else if bytes_eq first (codes "trial") then option_and_then (λ seed. Some (Trial seed until)) (seed_of word)
+    else if bytes_eq first (codes "trace") then Some (Trace word until None None)
     else None) (date_of date)
 command_of (first ∷ word ∷ date ∷ inputs ∷ []) = option_and_then (λ until.
     if bytes_eq first (codes "run") then Some (Run word until (Some inputs) None)
     else if bytes_eq first (codes "exec") then Some (Exec word until (Some inputs) None)
     else if bytes_eq first (codes "audit") then Some (Audit word until inputs None)
+    else if bytes_eq first (codes "trace") then Some (Trace word until (Some inputs) None)
     else None) (date_of date)
 command_of (first ∷ word ∷ date ∷ inputs ∷ script ∷ []) = option_and_then (λ until.
     if bytes_eq first (codes "run") then Some (Run word until (Some inputs) (Some script))
     else if bytes_eq first (codes "exec") then Some (Exec word until (Some inputs) (Some script))
     else if bytes_eq first (codes "audit") then Some (Audit word until inputs (Some script))
+    else if bytes_eq first (codes "trace") then Some (Trace word until (Some inputs) (Some script))
     else None) (date_of date)
 command_of _ = None
 
@@ -112,6 +115,11 @@ to_command words command (asks_exec_with_script image date inputs script until i
 to_command words command (asks_audit program date trace until is dated) = ap command_of is ∙ ap (option_and_then (λ until. Some (Audit program until trace None))) (to_date date until dated)
 to_command words command (asks_audit_with_script program date trace script until is dated) =
     ap command_of is ∙ ap (option_and_then (λ until. Some (Audit program until trace (Some script)))) (to_date date until dated)
+to_command words command (asks_trace program date until is dated) = ap command_of is ∙ ap (option_and_then (λ until. Some (Trace program until None None))) (to_date date until dated)
+to_command words command (asks_trace_with_inputs program date inputs until is dated) =
+    ap command_of is ∙ ap (option_and_then (λ until. Some (Trace program until (Some inputs) None))) (to_date date until dated)
+to_command words command (asks_trace_with_script program date inputs script until is dated) =
+    ap command_of is ∙ ap (option_and_then (λ until. Some (Trace program until (Some inputs) (Some script)))) (to_date date until dated)
 
 -- `make` and a word that is no seed ask for nothing.
 pub unmade : (first word : List ℕ) → true ≡ bytes_eq first (codes "make") → ((seed : ℕ) → IsSeed word seed → ⊥) → AskNothing (first ∷ word ∷ [])

@@ -3,7 +3,7 @@ use Rattle.std.proofs.Common.{◌≡◌, ◌∙◌, sym, subst, ap, refl, ℕ, L
 use Rattle.std.proofs.lemmas.Option.{none-some, same_Some, option_and_then_some}
 use Rattle.psy_lists.proofs.lemmas.Texts.{same_text}
 use Rattle.psy_run.specs.declared.refusal.Refusal.TheVariants.{Words}
-use Rattle.psy_run.specs.Asked.{Command, Asks, asks_run, asks_run_with_inputs, asks_run_with_script, asks_check, asks_graph, asks_make, asks_trial, asks_build, asks_exec, asks_exec_with_inputs, asks_exec_with_script, asks_audit, asks_audit_with_script}
+use Rattle.psy_run.specs.Asked.{Command, Asks, asks_run, asks_run_with_inputs, asks_run_with_script, asks_check, asks_graph, asks_make, asks_trial, asks_build, asks_exec, asks_exec_with_inputs, asks_exec_with_script, asks_audit, asks_audit_with_script, asks_trace, asks_trace_with_inputs, asks_trace_with_script}
 use Rattle.psy_run.specs.Steps.{asking}
 use Rattle.psy_run.proofs.AskedLemmas.{date_of, from_date, seed_of, from_seed, command_of, to_command}
 use Rattle.psy_run.proofs.Courses.{IsSome, IsDecided}
@@ -41,7 +41,10 @@ of_three first word date command is = option_and_then_some _ (date_of date) comm
       | inr last ↦ elim (chosen first (codes "trial") _ _ command last) [
         | inl trial ↦ option_and_then_some _ (seed_of word) command trial.1
             (λ seed drawn same. subst (Asks (first ∷ word ∷ date ∷ [])) (same_Some _ command same) (asks_trial word date seed until (ap (λ w. w ∷ word ∷ date ∷ []) trial.0) (from_seed word seed drawn) (from_date date until found)))
-        | inr none ↦ absurd (none-some command none)
+        | inr fifth ↦ elim (chosen first (codes "trace") _ _ command fifth) [
+          | inl trace ↦ subst (Asks (first ∷ word ∷ date ∷ [])) (same_Some _ command trace.1) (asks_trace word date until (ap (λ w. w ∷ word ∷ date ∷ []) trace.0) (from_date date until found))
+          | inr none ↦ absurd (none-some command none)
+        ]
       ]
     ]
   ]
@@ -58,7 +61,11 @@ of_four first program date inputs command is = option_and_then_some _ (date_of d
     | inr neither ↦ elim (chosen first (codes "audit") _ _ command neither) [
       | inl audit ↦ subst (Asks (first ∷ program ∷ date ∷ inputs ∷ [])) (same_Some _ command audit.1)
           (asks_audit program date inputs until (ap (λ w. w ∷ program ∷ date ∷ inputs ∷ []) audit.0) (from_date date until found))
-      | inr none ↦ absurd (none-some command none)
+      | inr last ↦ elim (chosen first (codes "trace") _ _ command last) [
+        | inl trace ↦ subst (Asks (first ∷ program ∷ date ∷ inputs ∷ [])) (same_Some _ command trace.1)
+            (asks_trace_with_inputs program date inputs until (ap (λ w. w ∷ program ∷ date ∷ inputs ∷ []) trace.0) (from_date date until found))
+        | inr none ↦ absurd (none-some command none)
+      ]
     ]
   ]
 ])
@@ -74,7 +81,11 @@ of_five first program date inputs script command is = option_and_then_some _ (da
     | inr neither ↦ elim (chosen first (codes "audit") _ _ command neither) [
       | inl audit ↦ subst (Asks (first ∷ program ∷ date ∷ inputs ∷ script ∷ [])) (same_Some _ command audit.1)
           (asks_audit_with_script program date inputs script until (ap (λ w. w ∷ program ∷ date ∷ inputs ∷ script ∷ []) audit.0) (from_date date until found))
-      | inr none ↦ absurd (none-some command none)
+      | inr last ↦ elim (chosen first (codes "trace") _ _ command last) [
+        | inl trace ↦ subst (Asks (first ∷ program ∷ date ∷ inputs ∷ script ∷ [])) (same_Some _ command trace.1)
+            (asks_trace_with_script program date inputs script until (ap (λ w. w ∷ program ∷ date ∷ inputs ∷ script ∷ []) trace.0) (from_date date until found))
+        | inr none ↦ absurd (none-some command none)
+      ]
     ]
   ]
 ])

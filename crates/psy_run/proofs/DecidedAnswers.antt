@@ -10,16 +10,16 @@ use Rattle.psy_plan.specs.Steps as plan
 use Rattle.psy_plan.specs.Supplies as supplies
 use Rattle.psy_run.specs.declared.refusal.File.TheVariants as file
 use Rattle.psy_run.specs.declared.refusal.Refusal.{Refusal}
-use Rattle.psy_run.specs.Answer.{Answers, refused, served, answering, serving, translating, compiling, supplying, listing, scripting, running, checking, drawing, building, executing, judging, planning, trying}
-use Rattle.psy_run.specs.Asked.{Asks, Command, Run, Check, Graph as Draw, Make, Trial, Build, Exec, Audit}
+use Rattle.psy_run.specs.Answer.{Answers, refused, served, answering, serving, translating, compiling, supplying, listing, scripting, running, checking, drawing, building, executing, judging, tracing, planning, trying}
+use Rattle.psy_run.specs.Asked.{Asks, Command, Run, Check, Graph as Draw, Make, Trial, Build, Exec, Audit, Trace}
 use Rattle.psy_run.specs.Courses.{in_row}
 use Rattle.psy_run.specs.Refusals.{status_of, line_of}
-use Rattle.psy_run.specs.Services.{Service, Ran, Checked, Drawn, Made, Tried, Built, Executed, Audited, no_inputs, no_script, text_of}
+use Rattle.psy_run.specs.Services.{Service, Ran, Checked, Drawn, Made, Tried, Built, Executed, Audited, Traced, no_inputs, no_script, text_of, trace_by}
 use Rattle.psy_run.specs.Steps.{judged_by}
 use Rattle.psy_run.proofs.AskingForms.{decided_asking}
 use Rattle.psy_run.proofs.Courses.{IsDecided, IsOne, IsSome, decided_planned, decided_pure, decided_then, one_pure, one_then, some_then}
 use Rattle.psy_run.proofs.DecidedImages.{ImagesDecide, decided_imaging, one_decoding, one_supplying_by, one_verifying}
-use Rattle.psy_run.proofs.DecidedSteps.{PlansDecide, TextsHold, decided_reading, decided_stating, decided_directing, decided_pacing}
+use Rattle.psy_run.proofs.DecidedSteps.{PlansDecide, TextsHold, decided_reading, decided_stating, decided_directing, decided_pacing, decided_fitting}
 use Rattle.psy_run.proofs.DecidedTraces.{decided_auditing}
 
 -- A program of a short text is one of a text.
@@ -118,6 +118,15 @@ module _ (laws : PlansDecide) (images : ImagesDecide) (files : Files) where
       decided_then _ _ (decided_auditing (judged_by unit supply.nexts supply.sizes until said) text) (λ counts judged.
       decided_pure (Audited counts.acts counts.looks)))))))
 
+  decided_tracing : (name : List ℕ) (until : ℕ) (inputs script : Option (List ℕ)) → IsDecided (tracing (Some files) name until inputs script)
+  decided_tracing name until inputs script = decided_then _ _ (decided_compiling name) (λ unit made.
+      decided_then _ _ (decided_supplying laws unit until (compiled laws.of_text (Some files) name unit made)) (λ supply supplied.
+      decided_then _ _ (decided_listing unit inputs) (λ lists listed.
+      decided_then _ _ (decided_scripting unit script) (λ said scripted.
+      decided_then _ _ (decided_pacing unit until) (λ done paced.
+      decided_then _ _ (decided_fitting (trace_by unit supply.nexts supply.sizes until lists said)) (λ told fits.
+      decided_pure (Traced unit supply.nexts supply.sizes until lists said)))))))
+
   -- Each command comes to one end at most; and to some, but that an image's is shown by the call itself.
   one_serving : (command : Command) → IsOne (serving (Some files) command)
   one_serving (Run program until inputs script) = (decided_running program until inputs script).one
@@ -128,6 +137,7 @@ module _ (laws : PlansDecide) (images : ImagesDecide) (files : Files) where
   one_serving (Build program) = (decided_building program).one
   one_serving (Exec image until inputs script) = one_executing image until inputs script
   one_serving (Audit program until trace script) = (decided_judging program until trace script).one
+  one_serving (Trace program until inputs script) = (decided_tracing program until inputs script).one
 
   abbrev IsNoExec : Command → Type 0
   IsNoExec command = (image : List ℕ) (until : ℕ) (inputs script : Option (List ℕ)) → command ≡ Exec image until inputs script → ⊥
@@ -141,6 +151,7 @@ module _ (laws : PlansDecide) (images : ImagesDecide) (files : Files) where
   some_serving (Build program) other = (decided_building program).some
   some_serving (Exec image until inputs script) other = absurd (other image until inputs script refl)
   some_serving (Audit program until trace script) other = (decided_judging program until trace script).some
+  some_serving (Trace program until inputs script) other = (decided_tracing program until inputs script).some
 
   one_answering : (words : List (List ℕ)) → IsOne (answering words (Some files))
   one_answering words = one_then _ _ (decided_asking words).one (λ command asks. one_serving command)

@@ -1,5 +1,5 @@
 -- Where the program of a text is planned, and where that stops, for which no file is read; and what a kernel of it writes.
-use Rattle.std.proofs.Common.{◌≡◌, ◌∙◌, ◌⊎◌, ℕ, List, [], ap, refl, sym, subst, inl, inr, Result, Ok, Err, IfOk, IfErr}
+use Rattle.std.proofs.Common.{◌≡◌, ◌∙◌, ◌⊎◌, ℕ, List, [], ap, refl, sym, subst, inl, inr, Option, Some, None, IfSome, Result, Ok, Err, IfOk, IfErr}
 use Rattle.std.specs.Result.{IsErrOf}
 use Rattle.psy_history.specs.Compiled.{AreInputs}
 use Rattle.psy_history.specs.Scripts.{IsScript}
@@ -12,6 +12,7 @@ use Rattle.psy_run.specs.declared.refusal.File.{File}
 use Rattle.psy_run.specs.declared.refusal.Refusal.{Refusal}
 use Rattle.psy_run.specs.declared.refusal.Stop.{Stop}
 use Rattle.psy_run.specs.declared.refusal.Stop.TheVariants as stop
+use Rattle.psy_run.specs.declared.served.Served.{Served}
 use Rattle.psy_run.specs.declared.served.Served.TheVariants as served
 use Rattle.psy_run.specs.Answer.{planning, supplying, translating}
 use Rattle.psy_run.specs.Courses.{Course, in_row}
@@ -93,3 +94,10 @@ kernel_meant alike (Ok kernel) was planned alone unscripted =
     let plan = kernel.plan in
     let can : CanServe (served.Ran kernel) = (was, planned, subst (AreInputs plan.unit) (sym alone) (are_no_inputs plan.unit), subst (IsScript plan.unit) (sym unscripted) (is_no_script plan.unit)) in
     served_text alike kernel can ∙ (λ i. text_of (Ran plan.unit plan.nexts plan.sizes plan.until (alone i) (unscripted i)))
+
+-- ---- the kernel that words ask for
+
+-- What holds of what is served holds of the kernel of a run, where it is one.
+pub asked_has : (P : Served → Type 0) (Q : Progress → Type 0) (done : Served) (asked : Option Progress) → ((kernel : Progress) → P (served.Ran kernel) → Q kernel) → P done → IfSome asked (λ kernel. done ≡ served.Ran kernel) → IfSome asked Q
+asked_has P Q done None by has is = tt
+asked_has P Q done (Some kernel) by has is = by kernel (subst P is has)

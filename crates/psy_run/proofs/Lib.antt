@@ -24,6 +24,7 @@ mod PlanLemmas
 mod TextLemmas
 mod ToldLemmas
 mod TopLemmas
+mod Tracing
 mod WritingLemmas
 mod FaultLemmas
 pub mod lemmas

@@ -8,7 +8,7 @@ use Rattle.psy_make.specs.Text.{made_text}
 use Rattle.psy_tree.specs.declared.unit.Unit.{Unit as Whole}
 use Rattle.psy_run.specs.declared.refusal.File.{File}
 use Rattle.psy_run.specs.declared.refusal.Refusal.{Refusal}
-use Rattle.psy_run.specs.declared.refusal.Refusal.TheVariants.{Words, TooLong, Cycles, Large}
+use Rattle.psy_run.specs.declared.refusal.Refusal.TheVariants.{Words, TooLong, Cycles, Large, LongTrace}
 use Rattle.psy_run.specs.declared.refusal.Stop.{Stop}
 use Rattle.psy_run.specs.declared.refusal.Stop.TheVariants as stop
 use Rattle.psy_base.specs.declared.ways.Ways.{Ways as WayLists}
@@ -17,7 +17,7 @@ use Rattle.psy_run.specs.Answer.{translating, supplying, supplying_by, trying}
 use Rattle.psy_run.specs.Courses.{Course, in_row}
 use Rattle.psy_run.specs.Outcome.{Halts, halts_refused, halts_unread, halts_memory, Says, TookLimit, IsPastLimit}
 use Rattle.psy_run.specs.Refusals.{status_of, line_of, file_name}
-use Rattle.psy_run.specs.Steps.{auditing, decoding, verifying, imaging, graphing, stating, directing, pacing}
+use Rattle.psy_run.specs.Steps.{auditing, decoding, verifying, imaging, graphing, stating, directing, pacing, fitting}
 
 -- ---- courses that read no file
 
@@ -71,6 +71,12 @@ directing_never_long unit bytes file stops = stops
 
 pub auditing_never_long : (j : Judged) (text : List ℕ) → IsNeverLong (auditing j text)
 auditing_never_long j text file stops = stops
+
+not_long : (file : File) → TooLong file ≡ LongTrace → ⊥
+not_long file e = absurd cc
+
+pub fitting_never_long : (trace : List ℕ) → IsNeverLong (fitting trace)
+fitting_never_long trace file stops = not_long file stops.0
 
 pub trying_never_long : (seed until : ℕ) → IsNeverLong (trying seed until)
 trying_never_long seed until =

@@ -2,6 +2,7 @@
 use Rattle.std.proofs.Common.{◌≡◌, refl, sym, ap, subst, ◌∙◌, ℕ, ◌+◌, ◌*◌, List, [], ◌∷◌, ◌++◌, length, get_or, map, Option, None, Some, ℤ, arith}
 use Rattle.std.specs.List.{flat_map, range_with_len}
 use Rattle.std.proofs.Math.Path.{fun_ext}
+use Rattle.psy_audit.specs.Spelled.{trace_text}
 use Rattle.psy_budget.specs.declared.charge.Stall.{Stall}
 use Rattle.psy_code.specs.declared.code.Code.{Code}
 use Rattle.psy_tree.specs.declared.unit.Unit.{Unit as Whole}
@@ -13,7 +14,7 @@ use Rattle.psy_history.specs.Compiled.{AreInputs, IsCompiled, coded, stated}
 use Rattle.psy_history.specs.Scheduled.{turns_by}
 use Rattle.psy_history.specs.declared.told.Order.{Order}
 use Rattle.psy_history.specs.declared.told.Script.{Script}
-use Rattle.psy_kernel.specs.Progress.{Progress, order, system}
+use Rattle.psy_kernel.specs.Progress.{Progress, booted, order, system}
 use Rattle.psy_history.specs.Scripts.{IsScript, order_of, stalls_of}
 use Rattle.psy_kernel.specs.Texts.{agent_end, event_line, lines_of, run_text, stream_end, summary_of, text_of, variable_end}
 use Rattle.psy_log.specs.Forms.{agent_line, end_line, stream_line, variable_line}
@@ -23,10 +24,10 @@ use Rattle.psy_history.specs.History.{history}
 use Rattle.psy_history.specs.Lines.{events}
 use Rattle.psy_history.specs.Summary.{due_by, most_held, reach, slack}
 use Rattle.psy_run.specs.Bounds.{IsBounded, KeepsBounds}
-use Rattle.psy_run.specs.Outcome.{CanServe}
+use Rattle.psy_run.specs.Outcome.{CanServe, HasTold}
 use Rattle.psy_run.specs.Planned.{IsPlanned, IsStatedPlan}
 use Rattle.psy_kernel.specs.Runs.{ended}
-use Rattle.psy_run.specs.Services.{HasRun, Leaves, meaning_by, meaning_of, no_inputs, no_script, service_of}
+use Rattle.psy_run.specs.Services.{HasRun, Leaves, meaning_by, meaning_of, no_inputs, no_script, service_of, traced_run}
 use Rattle.psy_run.specs.Services as service
 use Rattle.psy_run.specs.declared.served.Served.{Served}
 use Rattle.psy_run.specs.declared.served.Served.TheVariants as served
@@ -143,6 +144,12 @@ tried_leaves kernel now (is, plan) over =
     let ran = has_run kernel (no_inputs kernel.plan.unit) no_script (ap (λ (p : Progress). p.inputs) is) (ap (λ (p : Progress). p.script) is) (ap (λ (p : Progress). p.opening) is) in
     (now, refl, subst (λ (p : Progress). IsPlanned p.plan) (sym over) plan, subst (HasRun kernel.plan.unit kernel.plan.nexts kernel.plan.sizes kernel.plan.until (no_inputs kernel.plan.unit) no_script) (sym over) ran)
 
+-- A kernel that ran for its trace is left too
+pub traced_leaves : (kernel : Progress) (text : List ℕ) → HasTold kernel text → Leaves (traced_run kernel) (Some kernel)
+traced_leaves kernel text has =
+    let ran = has_run (booted kernel.plan kernel.inputs kernel.script) kernel.inputs kernel.script refl refl refl in
+    (kernel, refl, has.planned, subst (HasRun kernel.plan.unit kernel.plan.nexts kernel.plan.sizes kernel.plan.until kernel.inputs kernel.script) (sym has.over) ran)
+
 -- What is served leaves something
 pub some_left : (done : Served) → CanServe done → (left : Option Progress) × Leaves (service_of done) left
 some_left (served.Ran kernel) can = (Some (ended kernel), ran_leaves kernel (ended kernel) can refl)
@@ -152,6 +159,7 @@ some_left (served.Made text) can = (None, refl)
 some_left (served.Built image) can = (None, refl)
 some_left (served.Audited acts looks) can = (None, refl)
 some_left (served.Executed kernel) can = (Some (ended kernel), executed_leaves kernel (ended kernel) can refl)
+some_left (served.Traced kernel text) can = (Some kernel, traced_leaves kernel text.items can)
 some_left (served.Tried kernel) can = (Some (ended kernel), tried_leaves kernel (ended kernel) can refl)
 
 -- ---- the text of what is served
@@ -167,6 +175,15 @@ served_text law kernel (is, plan, are, script) =
 pub executed_text : (kernel : Progress) → CanServe (served.Executed kernel) → run_text (system kernel) (order kernel) kernel.plan.sizes kernel.plan.until ≡ service.text_of (service_of (served.Executed kernel))
 executed_text kernel (is, plan, are, script) =
     ap (λ opening. run_text (opened_of kernel.plan (beginning_of kernel.plan opening) kernel.inputs (stalls_of kernel.script)) (order kernel) kernel.plan.sizes kernel.plan.until) (ap (λ (p : Progress). p.opening) is)
+
+-- The trace of a run is the one of the statements
+abbrev pub SameTraces : System → System → Type 0
+SameTraces a b = (order : ℕ → List ℕ) (sizes : Sizes) (until : ℕ) → trace_text a order sizes until ≡ trace_text b order sizes until
+
+pub traced_text : Always SameTraces → (kernel : Progress) → CanServe (served.Ran kernel) → trace_text (system kernel) (order kernel) kernel.plan.sizes kernel.plan.until ≡ service.text_of (traced_run kernel)
+traced_text law kernel (is, plan, are, script) =
+    ap (λ opening. trace_text (opened_of kernel.plan (beginning_of kernel.plan opening) kernel.inputs (stalls_of kernel.script)) (order kernel) kernel.plan.sizes kernel.plan.until) (ap (λ (p : Progress). p.opening) is)
+    ∙ law kernel.plan.unit kernel.plan.code kernel.plan.nexts (stalls_of kernel.script) kernel.inputs plan.stated.compiled are (order kernel) kernel.plan.sizes kernel.plan.until
 
 -- And so does one that writes its summary alone
 pub tried_text : Always AreAlike → (kernel : Progress) → CanServe (served.Tried kernel)
@@ -206,6 +223,7 @@ is_no_script unit = record {
 -- What is served keeps its bounds
 pub is_bounded : Keeps → KeepsByCode → (done : Served) → CanServe done → IsBounded (service_of done)
 is_bounded keeps by_code (served.Ran kernel) (is, plan, are, script) = keeps kernel.plan kernel.inputs kernel.script plan.stated are script
+is_bounded keeps by_code (served.Traced kernel text) can = keeps kernel.plan kernel.inputs kernel.script can.planned.stated can.its_inputs can.its_script
 is_bounded keeps by_code (served.Checked unit sizes lines extent) can = tt
 is_bounded keeps by_code (served.Drawn unit graphs costs) can = tt
 is_bounded keeps by_code (served.Made text) can = tt

@@ -16,17 +16,17 @@ use Rattle.psy_plan.specs.declared.refusal.Refusal.TheVariants.{Lexical, Syntax,
 use Rattle.psy_run.specs.declared.refusal.File.{File}
 use Rattle.psy_run.specs.declared.refusal.File.TheVariants.{Program, Image as ImageFile, Inputs, Script, Trace as TraceFile}
 use Rattle.psy_run.specs.declared.refusal.Refusal.{Refusal}
-use Rattle.psy_run.specs.declared.refusal.Refusal.TheVariants.{Words, TooLong, Unplanned, Line, Lines, Cycles, Image, Code, Large, Trace}
+use Rattle.psy_run.specs.declared.refusal.Refusal.TheVariants.{Words, TooLong, Unplanned, Line, Lines, Cycles, Image, Code, Large, Trace, LongTrace}
 use Rattle.psy_run.specs.declared.refusal.Stop.{Stop}
 use Rattle.psy_run.specs.declared.refusal.Stop.TheVariants as stop
 use Rattle.psy_run.specs.Answer.{Answers, refused, served, translating, compiling, supplying, supplying_by, listing, scripting, serving, answering}
-use Rattle.psy_run.specs.Asked.{Command, Asks, AskNothing, Run, Check, Graph, Make, Trial, Build, Exec, Audit}
+use Rattle.psy_run.specs.Asked.{Command, Asks, AskNothing, Run, Check, Graph, Make, Trial, Build, Exec, Audit, Trace as Tracing}
 use Rattle.psy_run.specs.Bounds.{IsBounded}
 use Rattle.psy_run.specs.Courses.{Course, in_row}
 use Rattle.psy_run.specs.Outcome.{Halts, halts_refused, halts_unread, halts_memory, Seen, coming, IsUnread, MayAnswer, may_refuse, may_miss, may_serve, Ends, ends_memory, ends_said, ends_cut, Says}
 use Rattle.psy_run.specs.Refusals.{status_of, line_of, file_name}
-use Rattle.psy_run.specs.Services.{Service, Ran, Checked, Drawn, Made, Tried, Built, Executed, Audited, HasRun, Leaves, no_inputs, no_script, text_of}
-use Rattle.psy_run.specs.Steps.{reading, auditing, judged_by, decoding, verifying, imaging, graphing, costing, pacing}
+use Rattle.psy_run.specs.Services.{Service, Ran, Checked, Drawn, Made, Tried, Built, Executed, Audited, Traced, HasRun, Leaves, no_inputs, no_script, text_of, trace_by}
+use Rattle.psy_run.specs.Steps.{reading, auditing, judged_by, decoding, verifying, imaging, graphing, costing, pacing, fitting}
 
 -- ---- the statuses of refusals
 
@@ -71,6 +71,7 @@ is_status (Image place) = one (Image place)
 is_status (Code number place) = one (Code number place)
 is_status Large = seven Large
 is_status (Trace number line) = six (Trace number line)
+is_status LongTrace = seven LongTrace
 
 not_by : (refusal : Refusal) (status answer : ℕ) → IsStatus refusal status → answer ≢ 2 → (answer ≡ 0) ⊎ ((answer ≡ 3) ⊎ ((answer ≡ 4) ⊎ (answer ≡ 8))) → status ≢ answer
 not_by _ _ answer of_words two which e = two (sym e)
@@ -197,6 +198,9 @@ scripting_never files unit (Some name) = never_then (reading files Script name) 
 pacing_never : (unit : Whole) (until : ℕ) → Never (pacing unit until)
 pacing_never unit until stops = apart Cycles (λ e. absurd (omega arith)) stops.0
 
+fitting_never : (trace : List ℕ) → Never (fitting trace)
+fitting_never trace stops = apart LongTrace (λ e. absurd (omega arith)) stops.0
+
 serving_never : (files : Option Files) (command : Command) → Never (serving files command)
 serving_never files (Run name until inputs script) =
     never_then (compiling files name) _ (compiling_never files name)
@@ -229,6 +233,13 @@ serving_never files (Audit name until trace script) =
     (λ text. never_then (scripting files unit script) _ (scripting_never files unit script)
     (λ said. never_then (pacing unit until) _ (pacing_never unit until)
     (λ done. never_then (auditing (judged_by unit supply.nexts supply.sizes until said) text) _ (λ stops. stops) (λ counts stops. stops))))))
+serving_never files (Tracing name until inputs script) =
+    never_then (compiling files name) _ (compiling_never files name)
+    (λ unit. never_then (supplying unit until) _ (supplying_never unit until)
+    (λ supply. never_then (listing files unit inputs) _ (listing_never files unit inputs)
+    (λ lists. never_then (scripting files unit script) _ (scripting_never files unit script)
+    (λ said. never_then (pacing unit until) _ (pacing_never unit until)
+    (λ done. never_then (fitting (trace_by unit supply.nexts supply.sizes until lists said)) _ (fitting_never (trace_by unit supply.nexts supply.sizes until lists said)) (λ told stops. stops))))))
 
 nothing_asked : (words : List (List ℕ)) (files : Option Files) → (answering words files).stops Words → AskNothing words
 unfolding in_row
@@ -289,6 +300,7 @@ over_at unit nexts sizes until inputs script p ran = by (p.dates == p.plan.until
 over_of : (done : Service) (left : Option Progress) → Leaves done left → IfSome left (λ kernel. stage_of kernel ≡ Over)
 over_of (Ran unit nexts sizes until inputs script) left (p, is, plan, ran) = subst (λ l. IfSome l (λ kernel. stage_of kernel ≡ Over)) (sym is) (over_at unit nexts sizes until inputs script p ran)
 over_of (Tried unit nexts sizes until) left (p, is, plan, ran) = subst (λ l. IfSome l (λ kernel. stage_of kernel ≡ Over)) (sym is) (over_at unit nexts sizes until (no_inputs unit) no_script p ran)
+over_of (Traced unit nexts sizes until inputs script) left (p, is, plan, ran) = subst (λ l. IfSome l (λ kernel. stage_of kernel ≡ Over)) (sym is) (over_at unit nexts sizes until inputs script p ran)
 over_of (Checked unit sizes lines extent) left is = subst (λ l. IfSome l (λ kernel. stage_of kernel ≡ Over)) (sym is) tt
 over_of (Drawn unit graphs costs) left is = subst (λ l. IfSome l (λ kernel. stage_of kernel ≡ Over)) (sym is) tt
 over_of (Made text) left is = subst (λ l. IfSome l (λ kernel. stage_of kernel ≡ Over)) (sym is) tt

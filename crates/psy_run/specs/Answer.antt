@@ -10,11 +10,11 @@ use Rattle.psy_plan.specs.Supplies as supplies
 use Rattle.psy_plan.specs.Supplies.{Supply}
 use Rattle.psy_run.specs.declared.refusal.File.TheVariants as file
 use Rattle.psy_run.specs.declared.refusal.Refusal.{Refusal}
-use Rattle.psy_run.specs.Asked.{Command, Run, Check, Graph as Draw, Make, Trial, Build, Exec, Audit}
+use Rattle.psy_run.specs.Asked.{Command, Run, Check, Graph as Draw, Make, Trial, Build, Exec, Audit, Trace}
 use Rattle.psy_run.specs.Courses.{Course, planned, pure, ◌>>=◌}
 use Rattle.psy_run.specs.Refusals.{status_of, line_of}
-use Rattle.psy_run.specs.Services.{Service, Ran, Checked, Drawn, Made, Tried, Built, Executed, Audited, no_inputs, no_script, text_of}
-use Rattle.psy_run.specs.Steps.{asking, reading, auditing, judged_by, decoding, verifying, imaging, graphing, costing, pacing, stating, directing}
+use Rattle.psy_run.specs.Services.{Service, Ran, Checked, Drawn, Made, Tried, Built, Executed, Audited, Traced, no_inputs, no_script, text_of, trace_by}
+use Rattle.psy_run.specs.Steps.{asking, reading, auditing, judged_by, decoding, verifying, imaging, graphing, costing, pacing, stating, directing, fitting}
 
 -- ---- the commands
 
@@ -117,6 +117,17 @@ judging files name until trace script = do
   counts ← auditing (judged_by unit supply.nexts supply.sizes until said) text
   pure (Audited counts.acts counts.looks)
 
+-- `trace PROG UNTIL [INPUTS [SCRIPT]]`: the steps of `run`, and the length of the trace
+abbrev pub tracing : Option Files → List ℕ → ℕ → Option (List ℕ) → Option (List ℕ) → Course Service
+tracing files name until inputs script = do
+  unit ← compiling files name
+  supply ← supplying unit until
+  lists ← listing files unit inputs
+  said ← scripting files unit script
+  _ ← pacing unit until
+  _ ← fitting (trace_by unit supply.nexts supply.sizes until lists said)
+  pure (Traced unit supply.nexts supply.sizes until lists said)
+
 -- A run of the program of a text, without inputs and script, however many cycles it has
 abbrev pub planning : List ℕ → ℕ → Course Service
 planning bytes until = do
@@ -134,6 +145,7 @@ serving files (Trial seed until) = trying seed until
 serving files (Build program) = building files program
 serving files (Exec image until inputs script) = executing files image until inputs script
 serving files (Audit program until trace script) = judging files program until trace script
+serving files (Trace program until inputs script) = tracing files program until inputs script
 
 -- The words: what they ask for, then that
 abbrev pub answering : List (List ℕ) → Option Files → Course Service

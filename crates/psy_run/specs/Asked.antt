@@ -25,9 +25,10 @@ pub data Command : Type 0 where
   Build : (program : List ℕ) → Command
   Exec : (image : List ℕ) (until : ℕ) (inputs script : Option (List ℕ)) → Command
   Audit : (program : List ℕ) (until : ℕ) (trace : List ℕ) (script : Option (List ℕ)) → Command
+  Trace : (program : List ℕ) (until : ℕ) (inputs script : Option (List ℕ)) → Command
 
 -- The words ask for a command: `run PROG UNTIL [INPUTS [SCRIPT]]`, `check PROG UNTIL`, `graph PROG`, `make SEED`, `trial SEED UNTIL`, `build PROG`,
--- `exec IMAGE UNTIL [INPUTS [SCRIPT]]` or `audit PROG UNTIL TRACE [SCRIPT]`
+-- `exec IMAGE UNTIL [INPUTS [SCRIPT]]`, `audit PROG UNTIL TRACE [SCRIPT]` or `trace PROG UNTIL [INPUTS [SCRIPT]]`
 pub data Asks (words : List (List ℕ)) : Command → Type 0 where
   asks_run : (program date : List ℕ) (until : ℕ) → words ≡ codes "run" ∷ program ∷ date ∷ [] → IsDate date until → Asks words (Run program until None None)
   asks_run_with_inputs : (program date inputs : List ℕ) (until : ℕ) → words ≡ codes "run" ∷ program ∷ date ∷ inputs ∷ [] → IsDate date until
@@ -49,6 +50,12 @@ pub data Asks (words : List (List ℕ)) : Command → Type 0 where
       → Asks words (Audit program until trace None)
   asks_audit_with_script : (program date trace script : List ℕ) (until : ℕ) → words ≡ codes "audit" ∷ program ∷ date ∷ trace ∷ script ∷ []
       → IsDate date until → Asks words (Audit program until trace (Some script))
+  asks_trace : (program date : List ℕ) (until : ℕ) → words ≡ codes "trace" ∷ program ∷ date ∷ [] → IsDate date until
+      → Asks words (Trace program until None None)
+  asks_trace_with_inputs : (program date inputs : List ℕ) (until : ℕ) → words ≡ codes "trace" ∷ program ∷ date ∷ inputs ∷ [] → IsDate date until
+      → Asks words (Trace program until (Some inputs) None)
+  asks_trace_with_script : (program date inputs script : List ℕ) (until : ℕ) → words ≡ codes "trace" ∷ program ∷ date ∷ inputs ∷ script ∷ []
+      → IsDate date until → Asks words (Trace program until (Some inputs) (Some script))
 
 -- The words are of no listed form
 abbrev pub AskNothing : List (List ℕ) → Type 0
@@ -64,3 +71,4 @@ asked_by (read.Trial seed until) = Trial seed until
 asked_by (read.Build program) = Build program.now
 asked_by (read.Exec image until inputs script) = Exec image.now until (option_copied inputs) (option_copied script)
 asked_by (read.Audit program until trace script) = Audit program.now until trace.now (option_copied script)
+asked_by (read.Trace program until inputs script) = Trace program.now until (option_copied inputs) (option_copied script)

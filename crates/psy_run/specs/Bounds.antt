@@ -13,7 +13,7 @@ use Rattle.psy_graph.specs.Graphs.{AreGraphs}
 use Rattle.psy_demand.specs.Criterion.{edges_of}
 use Rattle.psy_rate.specs.Lines.{AreRates}
 use Rattle.psy_plan.specs.Supplies.{IsMet}
-use Rattle.psy_run.specs.Services.{Service, Ran, Checked, Tried, Executed, meaning_by, meaning_of, no_inputs, no_script}
+use Rattle.psy_run.specs.Services.{Service, Ran, Checked, Tried, Executed, Traced, meaning_by, meaning_of, no_inputs, no_script}
 
 -- A run up to a date keeps its bounds.
 pub record KeepsBounds (s : System) (order : ℕ → List ℕ) (sizes : Sizes) (until : ℕ) : Type 0 where
@@ -34,6 +34,7 @@ abbrev pub IsBounded : Service → Type 0
 IsBounded (Ran unit nexts sizes until inputs script) = KeepsBounds (meaning_of unit nexts inputs script) (order_of unit script) sizes until
 IsBounded (Tried unit nexts sizes until) = KeepsBounds (meaning_of unit nexts (no_inputs unit) no_script) (order_of unit no_script) sizes until
 IsBounded (Executed unit code nexts sizes until inputs script) = KeepsBounds (meaning_by unit code nexts inputs script) (order_of unit script) sizes until
+IsBounded (Traced unit nexts sizes until inputs script) = KeepsBounds (meaning_of unit nexts inputs script) (order_of unit script) sizes until
 IsBounded service = ⊤
 
 -- What a check tells is borne out: its lines are those of the agents' graphs, and their demand is met.

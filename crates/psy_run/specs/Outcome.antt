@@ -8,6 +8,7 @@ use Rattle.psy_door.specs.Files.{Files}
 use Rattle.psy_door.specs.Growth.{Grew, GrewByFront}
 use Rattle.psy_history.specs.Compiled.{AreInputs}
 use Rattle.psy_kernel.specs.Progress.{Progress, booted}
+use Rattle.psy_kernel.specs.Runs.{ended}
 use Rattle.psy_history.specs.Scripts.{IsScript}
 use Rattle.psy_log.specs.Forms.{read_line}
 use Rattle.psy_run.specs.declared.refusal.File.{File}
@@ -25,7 +26,7 @@ use Rattle.psy_run.specs.Bounds.{IsBounded}
 use Rattle.psy_run.specs.Courses.{Course}
 use Rattle.psy_run.specs.Planned.{IsPlanned}
 use Rattle.psy_run.specs.Refusals.{status_of, line_of, file_name}
-use Rattle.psy_run.specs.Services.{Service, Leaves, no_inputs, no_script, text_of}
+use Rattle.psy_run.specs.Services.{Service, Leaves, no_inputs, no_script, text_of, traced_run}
 
 -- A course was left before its end: a step of it refused, or the read of the file that it had come to failed, or memory ran out.
 pub data Halts {X : Type 0} (course : Course X) (failed : List ℕ) (before after : ℕ) : Stop → Type 0 where
@@ -86,7 +87,16 @@ pub data Ends (seen : Seen) (old now : Option (List ℕ)) (before after : ℕ) :
 abbrev pub Says : Option (List ℕ) → Option (List ℕ) → ℕ → ℕ → ℕ → ℕ → List ℕ → Type 0
 Says old now before after answer status text = ((answer ≡ status) × Grew old now text) ⊎ ((answer ≡ 4) × Rose before after × GrewByFront old now text)
 
--- What is served can be: a kernel was just booted, with inputs and a script of its program, or without; and the names of a unit are short.
+-- A kernel ran to its end, with inputs and a script of its program, and the text is the trace of that run.
+pub record HasTold (kernel : Progress) (text : List ℕ) : Type 0 where
+  pub over : kernel ≡ ended (booted kernel.plan kernel.inputs kernel.script)
+  pub planned : IsPlanned kernel.plan
+  pub its_inputs : AreInputs kernel.plan.unit kernel.inputs
+  pub its_script : IsScript kernel.plan.unit kernel.script
+  pub told : text ≡ text_of (traced_run kernel)
+
+-- What is served can be: a kernel was just booted, with inputs and a script of its program, or without; or it ran to its end, with its trace; and the names
+-- of a unit are short.
 abbrev pub CanServe : Served → Type 0
 CanServe (served.Ran kernel) = (kernel ≡ booted kernel.plan kernel.inputs kernel.script) × IsPlanned kernel.plan × AreInputs kernel.plan.unit kernel.inputs
     × IsScript kernel.plan.unit kernel.script
@@ -98,3 +108,4 @@ CanServe (served.Audited acts looks) = ⊤
 CanServe (served.Executed kernel) = (kernel ≡ booted kernel.plan kernel.inputs kernel.script) × IsPlan kernel.plan × AreInputs kernel.plan.unit kernel.inputs
     × IsScript kernel.plan.unit kernel.script
 CanServe (served.Tried kernel) = (kernel ≡ booted kernel.plan (no_inputs kernel.plan.unit) no_script) × IsPlanned kernel.plan
+CanServe (served.Traced kernel text) = HasTold kernel text.items

@@ -13,7 +13,7 @@ use Rattle.psy_script.specs.Faults.{line_number}
 use Rattle.psy_run.specs.declared.refusal.File.{File}
 use Rattle.psy_run.specs.declared.refusal.File.TheVariants.{Program, Image as ImageFile, Inputs, Script, Trace as TraceFile}
 use Rattle.psy_run.specs.declared.refusal.Refusal.{Refusal}
-use Rattle.psy_run.specs.declared.refusal.Refusal.TheVariants.{Words, TooLong, Unplanned, Line, Lines, Cycles, Image, Code, Large, Trace}
+use Rattle.psy_run.specs.declared.refusal.Refusal.TheVariants.{Words, TooLong, Unplanned, Line, Lines, Cycles, Image, Code, Large, Trace, LongTrace}
 use Rattle.psy_run.specs.declared.refusal.Stop.{Stop}
 use Rattle.psy_run.specs.declared.refusal.Stop.TheVariants as stop
 
@@ -43,6 +43,7 @@ status_of (Image place) = 1
 status_of (Code number place) = 1
 status_of Large = 7
 status_of (Trace number line) = 6
+status_of LongTrace = 7
 
 -- What a file is called
 abbrev pub file_name : File → List ℕ
@@ -52,10 +53,14 @@ file_name Inputs = codes "inputs"
 file_name Script = codes "script"
 file_name TraceFile = codes "trace"
 
+-- The line of a file that has too many bytes, or would have them
+abbrev pub long_line : File → List ℕ
+long_line file = limit_line (file_name file) limit.FILE_BYTES
+
 -- The line of each refusal
 abbrev pub line_of : Refusal → List ℕ
 line_of Words = words_line
-line_of (TooLong file) = limit_line (file_name file) limit.FILE_BYTES
+line_of (TooLong file) = long_line file
 line_of (Unplanned cause) = line_of_plan cause
 line_of (Line file kind line) = refused_line (file_name file) (line_number kind) (Some line)
 line_of Lines = limit_line (codes "lines") limit.LINES
@@ -63,7 +68,8 @@ line_of Cycles = limit_line (codes "run") limit.RUN
 line_of (Image place) = refused_image_line place
 line_of (Code number place) = refused_line (codes "verify") number (Some place)
 line_of (Trace number line) = refused_line (codes "trace") number (Some line)
-line_of Large = limit_line (codes "image") limit.FILE_BYTES
+line_of Large = long_line ImageFile
+line_of LongTrace = long_line TraceFile
 
 -- Why a command stops at the text of a file
 abbrev pub stop_by : File → TextFault → Stop

@@ -1,5 +1,6 @@
 -- What a command does, once nothing refuses it, and its text.
 use Rattle.std.specs.Prelude.{◌≡◌, ℕ, ◌+◌, ◌*◌, List, [], map, length, Option, None, Some, ℤ}
+use Rattle.psy_audit.specs.Spelled.{trace_text}
 use Rattle.psy_dates.specs.declared.plan.Plan.{Plan}
 use Rattle.psy_tree.specs.declared.unit.Unit.{Unit as Whole}
 use Rattle.psy_history.specs.Actions.{System}
@@ -22,7 +23,7 @@ use Rattle.psy_run.specs.Texts.{check_text, graph_text}
 
 -- What a command does: it runs a program, whose points may be followed by these and whose buffers have these sizes, up to a date, with
 -- inputs and a script; it checks one, with these lines above its demand; it draws its graphs; it makes the text of one; it runs one that was made; it
--- builds the image of one; it runs the code of an image; or it finds a trace to be legal, with so many actions and looks.
+-- builds the image of one; it runs the code of an image; it finds a trace to be legal, with so many actions and looks; or it tells the trace of a run.
 pub data Service : Type 0 where
   Ran : (unit : Whole) (nexts : List (List (List ℕ))) (sizes : Sizes) (until : ℕ) (inputs : List (List ℤ)) (script : Script) → Service
   Checked : (unit : Whole) (sizes : Sizes) (lines : List Rate) (extent : Extent) → Service
@@ -32,6 +33,7 @@ pub data Service : Type 0 where
   Built : (image : List ℕ) → Service
   Audited : (acts looks : ℕ) → Service
   Executed : (unit : Whole) (code : Code) (nexts : List (List (List ℕ))) (sizes : Sizes) (until : ℕ) (inputs : List (List ℤ)) (script : Script) → Service
+  Traced : (unit : Whole) (nexts : List (List (List ℕ))) (sizes : Sizes) (until : ℕ) (inputs : List (List ℤ)) (script : Script) → Service
 
 -- ---- the meaning of a run
 
@@ -53,6 +55,10 @@ meaning_by unit code nexts inputs script = coded unit code nexts (stalls_of scri
 
 -- ---- texts
 
+-- The trace of a run by the dated meaning of a program's statements: it tells the schedule of deadlines, and knows no code.
+abbrev pub trace_by : Whole → List (List (List ℕ)) → Sizes → ℕ → List (List ℤ) → Script → List ℕ
+trace_by unit nexts sizes until inputs script = trace_text (meaning_of unit nexts inputs script) (order_of unit script) sizes until
+
 -- The text of what is done. That of a run is the one of the dated meaning, which knows no code and no schedule but for the summary.
 abbrev pub text_of : Service → List ℕ
 text_of (Ran unit nexts sizes until inputs script) = run_text (meaning_of unit nexts inputs script) (order_of unit script) sizes until
@@ -62,6 +68,7 @@ text_of (Made text) = text
 text_of (Built image) = image
 text_of (Audited acts looks) = legal_line acts looks
 text_of (Executed unit code nexts sizes until inputs script) = run_text (meaning_by unit code nexts inputs script) (order_of unit script) sizes until
+text_of (Traced unit nexts sizes until inputs script) = trace_by unit nexts sizes until inputs script
 text_of (Tried unit nexts sizes until) = lines_text (summary_of (meaning_of unit nexts (no_inputs unit) no_script) (order_of unit no_script) sizes until)
 
 -- ---- what is left
@@ -80,9 +87,11 @@ pub record HasRun (unit : Whole) (nexts : List (List (List ℕ))) (sizes : Sizes
   pub cycles : p.cycles ≡ until * unit.quantum
   pub given : p.given ≡ length (lines_told p)
 
--- The kernel that is left: that of a run, by a plan of its program's statements or of an image's code, and none of another command
+-- The kernel that is left: that of a run, traced or not, by a plan of its program's statements or of an image's code, and none of another command
 abbrev pub Leaves : Service → Option Progress → Type 0
 Leaves (Ran unit nexts sizes until inputs script) left =
+    (p : Progress) × (left ≡ Some p) × IsPlanned p.plan × HasRun unit nexts sizes until inputs script p
+Leaves (Traced unit nexts sizes until inputs script) left =
     (p : Progress) × (left ≡ Some p) × IsPlanned p.plan × HasRun unit nexts sizes until inputs script p
 Leaves (Tried unit nexts sizes until) left =
     (p : Progress) × (left ≡ Some p) × IsPlanned p.plan × HasRun unit nexts sizes until (no_inputs unit) no_script p
@@ -92,7 +101,11 @@ Leaves service left = left ≡ None
 
 -- ---- what is served
 
--- What was made ready for it: a kernel that was just booted, or what is written
+-- The trace of a kernel's run
+abbrev pub traced_run : Progress → Service
+traced_run kernel = Traced kernel.plan.unit kernel.plan.nexts kernel.plan.sizes kernel.plan.until kernel.inputs kernel.script
+
+-- What was made ready for it: a kernel that was just booted, or what is written, that of a trace with the kernel that ran
 abbrev pub service_of : Served → Service
 service_of (served.Ran kernel) = Ran kernel.plan.unit kernel.plan.nexts kernel.plan.sizes kernel.plan.until kernel.inputs kernel.script
 service_of (served.Checked unit sizes lines extent) = Checked unit sizes lines extent
@@ -103,6 +116,7 @@ service_of (served.Built image) = Built image.items
 service_of (served.Audited acts looks) = Audited acts looks
 service_of (served.Executed kernel) =
     Executed kernel.plan.unit kernel.plan.code kernel.plan.nexts kernel.plan.sizes kernel.plan.until kernel.inputs kernel.script
+service_of (served.Traced kernel text) = traced_run kernel
 
 -- The run of a plan without inputs and script
 abbrev pub planned_run : Plan → Service

@@ -25,7 +25,7 @@ use Rattle.psy_verify.specs.Fits.{IsChecked}
 use Rattle.psy_run.specs.declared.refusal.File.{File}
 use Rattle.psy_run.specs.declared.refusal.File.TheVariants.{Inputs, Script}
 use Rattle.psy_run.specs.declared.refusal.Refusal.{Refusal}
-use Rattle.psy_run.specs.declared.refusal.Refusal.TheVariants.{Words, TooLong, Line, Lines, Cycles, Image, Code, Large, Trace}
+use Rattle.psy_run.specs.declared.refusal.Refusal.TheVariants.{Words, TooLong, Line, Lines, Cycles, Image, Code, Large, Trace, LongTrace}
 use Rattle.psy_run.specs.Asked.{Command, Asks, AskNothing}
 use Rattle.psy_run.specs.Courses.{Course, planned, step, unless}
 
@@ -116,3 +116,7 @@ directing unit bytes = step (IsScriptOf unit bytes) (IsUnscripted unit bytes)
 -- A run has at most 100,000,000 cycles.
 abbrev pub pacing : Whole → ℕ → Course (Unit {0})
 pacing unit until = unless (until * unit.quantum ≤ RUN) (RUN < until * unit.quantum) Cycles
+
+-- The trace of a run has at most 262,144 bytes.
+abbrev pub fitting : List ℕ → Course (Unit {0})
+fitting trace = unless (length trace ≤ FILE_BYTES) (FILE_BYTES < length trace) LongTrace

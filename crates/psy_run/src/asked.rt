@@ -43,6 +43,12 @@ pub enum Command<'a> {
         trace: &'a str,
         script: Option<&'a str>,
     },
+    Trace {
+        program: &'a str,
+        until: u32,
+        inputs: Option<&'a str>,
+        script: Option<&'a str>,
+    },
 }
 
 // The date that a word is.
@@ -86,7 +92,7 @@ fn of_two<'a>(command: &'a str, word: &'a str) -> Option<Command<'a>>
     None
 }
 
-// `run PROG UNTIL`, `check PROG UNTIL`, `trial SEED UNTIL` or `exec IMAGE UNTIL`
+// `run PROG UNTIL`, `exec IMAGE UNTIL`, `trace PROG UNTIL`, `check PROG UNTIL` or `trial SEED UNTIL`
 fn of_three<'a>(command: &'a str, word: &'a str, until: &'a str) -> Option<Command<'a>>
     ensures { MatchOption result (AskNothing (command.now ∷ word.now ∷ until.now ∷ [])) (λ c. Asks (command.now ∷ word.now ∷ until.now ∷ []) (asked_by c)) }
 {
@@ -117,10 +123,18 @@ fn of_three<'a>(command: &'a str, word: &'a str, until: &'a str) -> Option<Comma
         let seed = seed(word.as_bytes())?;
         return Some(Command::Trial { seed, until });
     }
+    if command == "trace" {
+        return Some(Command::Trace {
+            program: word,
+            until,
+            inputs: None,
+            script: None,
+        });
+    }
     None
 }
 
-// `run PROG UNTIL INPUTS`, `exec IMAGE UNTIL INPUTS` or `audit PROG UNTIL TRACE`
+// `run PROG UNTIL INPUTS`, `exec IMAGE UNTIL INPUTS`, `audit PROG UNTIL TRACE` or `trace PROG UNTIL INPUTS`
 fn of_four<'a>(
     command: &'a str,
     program: &'a str,
@@ -155,10 +169,18 @@ fn of_four<'a>(
             script: None,
         });
     }
+    if command == "trace" {
+        return Some(Command::Trace {
+            program,
+            until,
+            inputs: Some(inputs),
+            script: None,
+        });
+    }
     None
 }
 
-// `run PROG UNTIL INPUTS SCRIPT`, `exec IMAGE UNTIL INPUTS SCRIPT` or `audit PROG UNTIL TRACE SCRIPT`
+// `run PROG UNTIL INPUTS SCRIPT`, `exec IMAGE UNTIL INPUTS SCRIPT`, `audit PROG UNTIL TRACE SCRIPT` or `trace PROG UNTIL INPUTS SCRIPT`
 fn of_five<'a>(
     command: &'a str,
     program: &'a str,
@@ -191,6 +213,14 @@ fn of_five<'a>(
             program,
             until,
             trace: inputs,
+            script: Some(script),
+        });
+    }
+    if command == "trace" {
+        return Some(Command::Trace {
+            program,
+            until,
+            inputs: Some(inputs),
             script: Some(script),
         });
     }

@@ -1,64 +1,26 @@
 //! The commands: each is its list of steps.
 ghost use Rattle.std.specs.Prelude.{◌≡◌, ◌≤◌, ℕ, List, map, string_bytes, IfOk, IfErr, OnOk, option_copied};
-ghost use Rattle.psy_history.specs.Compiled.{AreInputs};
-ghost use Rattle.psy_history.specs.Scripts.{IsScript};
-ghost use Rattle.psy_graph.specs.declared.graph.Graph.{Graph};
-ghost use Rattle.psy_kernel.specs.Progress.{booted};
-ghost use Rattle.psy_meaning.specs.Alike.{ActsAlike};
-ghost use Rattle.psy_meaning.specs.ListedWays.{AreWaysOf};
-ghost use Rattle.psy_meaning.specs.Units.{IsOfText};
-ghost use Rattle.psy_run.specs.Answer.{supplying, running, checking, drawing, making, trying, answering};
+ghost use Rattle.psy_run.specs.Answer.{running, checking, drawing, making, trying, answering};
 ghost use Rattle.psy_run.specs.Asked.{Command as Asked, Asks};
 ghost use Rattle.psy_run.specs.Outcome.{CanServe, Halts, TookLimit, Unfailed};
-ghost use Rattle.psy_run.specs.Planned.{IsPlanned};
 ghost use Rattle.psy_run.specs.Services.{service_of};
-ghost use Rattle.psy_run.specs.Supplies.{supply_of};
 
 use crate::asked::{Command, read_words};
 use crate::costs::all_costs;
 use crate::image_commands::{build, exec};
-use crate::plan::plan_of;
+use crate::ready::{boot, ready};
 use crate::refusal::{Refusal, Stop};
 use crate::served::Served;
 use crate::steps::{compile, translate};
-use crate::supply::{Supplied, graphs, supply};
-use crate::told::{inputs_of, nothing_said, pace, script_of};
-use crate::trace_commands::audit;
-use psy_base::Memory;
+use crate::supply::{graphs, supply};
+use crate::told::{nothing_said, pace};
+use crate::trace_commands::{audit, trace};
 use psy_door::Shelf;
-use psy_history::{Inputs, Script, no_lists};
-use psy_kernel::Kernel;
+use psy_history::no_lists;
 use psy_make::laws::short;
 use psy_make::make;
 use psy_plan::with_ways;
-use psy_tree::Unit;
 use std::alloc::Global;
-
-/// A kernel of a program that can be run up to a date, with these inputs and this script of it.
-pub fn boot(
-    alloc: Global,
-    unit: Unit,
-    supply: Supplied,
-    until: u32,
-    inputs: Inputs,
-    script: Script,
-) -> Result<Kernel, Memory>
-    requires text { IsOfText unit }
-    requires alike { ActsAlike unit supply.code }
-    requires ways { AreWaysOf unit supply.ways }
-    requires supplied { (graphs : List Graph) × (supplying unit until).gives (supply_of graphs supply) }
-    requires inputs { AreInputs unit inputs.lists }
-    requires script { IsScript unit script }
-    ensures booted { IfOk result (λ kernel. kernel ≡ booted kernel.plan inputs.lists script) }
-    ensures plan { IfOk result (λ kernel. IsPlanned kernel.plan) }
-    ensures its_unit { IfOk result (λ kernel. kernel.plan.unit ≡ unit) }
-    ensures its_nexts { IfOk result (λ kernel. kernel.plan.nexts ≡ supply.ways.nexts) }
-    ensures its_sizes { IfOk result (λ kernel. kernel.plan.sizes ≡ supply.sizes) }
-    ensures its_until { IfOk result (λ kernel. kernel.plan.until ≡ until) }
-{
-    let plan = plan_of(unit, supply, until);
-    Kernel::boot(alloc, plan, inputs, script)
-}
 
 // `run PROG UNTIL [INPUTS [SCRIPT]]`
 fn run<F: Shelf>(
@@ -79,14 +41,9 @@ fn run<F: Shelf>(
     ensures can { IfOk result CanServe }
     ensures shelf { (F.faults shelf.old ≤ F.faults shelf.new) × (F.files shelf.new ≡ F.files shelf.old) }
 {
-    let unit = compile(alloc, shelf, name)?;
-    let supply = supply(alloc, &unit, until)?;
-    let inputs = inputs_of(alloc, shelf, &unit, inputs)?;
-    let script = script_of(alloc, shelf, &unit, script)?;
-    pace(&unit, until)?;
-    match boot(alloc, unit, supply, until, inputs, script) {
+    match ready(alloc, shelf, name, until, inputs, script) {
         Ok(kernel) => Ok(Served::Ran(kernel)),
-        Err(_) => Err(Stop::Memory),
+        Err(stop) => Err(stop),
     }
 }
 
@@ -201,5 +158,13 @@ pub fn judge<F: Shelf>(alloc: Global, words: &[String], shelf: &mut F) -> Result
                 script,
             },
         ) => audit(alloc, shelf, program, until, trace, script),
+        Some(
+            Command::Trace {
+                program,
+                until,
+                inputs,
+                script,
+            },
+        ) => trace(alloc, shelf, program, until, inputs, script),
     }
 }

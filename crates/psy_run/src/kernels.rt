@@ -15,8 +15,9 @@ ghost use Rattle.psy_run.specs.Outcome.{Halts, TookLimit, Unfailed};
 ghost use Rattle.psy_run.specs.Planned.{IsPlanned};
 ghost use Rattle.psy_run.specs.Services.{Ran, no_inputs, no_script, planned_run, service_of, text_of};
 
-use crate::commands::{boot, judge};
+use crate::commands::judge;
 use crate::laws::one_answer;
+use crate::ready::boot;
 use crate::refusal::Stop;
 use crate::served::Served;
 use crate::steps::translate;
@@ -77,6 +78,40 @@ pub fn kernel_of(alloc: Global, text: &Vec<u8>, until: u32) -> Result<Kernel, St
     boot_text(alloc, text, until)
 }
 
+// No kernel: this one is none of a run.
+fn none_of(_kernel: Kernel) -> Option<Kernel>
+    ensures { result ≡ None }
+{
+    None
+}
+
+// The kernel of a run; none of another command. Each part is let go by itself, since a proof that lets go of a whole `Served` is long.
+fn of_run(served: Served) -> Option<Kernel>
+    ensures ran { IfSome result (λ kernel. served ≡ Done.Ran kernel) }
+    ensures other { result ≡ None → (kernel : Progress) → served ≢ Done.Ran kernel }
+{
+    match served {
+        Served::Ran(kernel) => Some(kernel),
+        Served::Tried(kernel) => none_of(kernel),
+        Served::Executed(kernel) => none_of(kernel),
+        Served::Traced(kernel, _text) => none_of(kernel),
+        Served::Checked {
+            unit: _unit,
+            sizes: _sizes,
+            lines: _lines,
+            extent: _extent,
+        } => None,
+        Served::Drawn {
+            unit: _unit,
+            graphs: _graphs,
+            costs: _costs,
+        } => None,
+        Served::Made(_text) => None,
+        Served::Built(_image) => None,
+        Served::Audited { .. } => None,
+    }
+}
+
 /// The kernel that the words of a `run` ask for, just booted, for whoever steps it by their own means; none where they ask for another command.
 /// It is refused, and files are read, as by the command.
 pub fn kernel_asked<F: Shelf>(
@@ -103,8 +138,7 @@ pub fn kernel_asked<F: Shelf>(
     ensures shelf { (F.faults shelf.old ≤ F.faults shelf.new) × (F.files shelf.new ≡ F.files shelf.old) }
 {
     match judge(alloc, words, shelf) {
-        Ok(Served::Ran(kernel)) => Ok(Some(kernel)),
-        Ok(_) => Ok(None),
+        Ok(served) => Ok(of_run(served)),
         Err(stop) => Err(stop),
     }
 }

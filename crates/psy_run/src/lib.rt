@@ -1,5 +1,5 @@
 //! The top call of psyc: from words and the bytes of a program to a status and a text.
-//! It may know what plans programs, what reads inputs and scripts, what judges traces, the door and the kernel, through their public calls.
+//! It may know what plans programs, what reads inputs and scripts, what tells and judges traces, the door and the kernel, through their public calls.
 #![tactic(auto)]
 
 mod asked;
@@ -11,6 +11,7 @@ mod images;
 mod kernels;
 pub mod laws;
 mod plan;
+mod ready;
 mod refusal;
 mod run;
 mod served;

@@ -1,7 +1,7 @@
 //! Why a command isn't served.
 ghost use Rattle.std.specs.Prelude.{◌≡◌, ◌≤◌, length, Some as some};
 ghost use Rattle.psy_base.specs.declared.limits.TheConstants.{WORD_BYTES};
-ghost use Rattle.psy_run.specs.Refusals.{status_of, status_of_plan, stop_of, line_of, file_name};
+ghost use Rattle.psy_run.specs.Refusals.{status_of, status_of_plan, stop_of, line_of, long_line, file_name};
 ghost use Rattle.psy_log.specs.Forms.{name_of, limit_line, read_line, refused_line, line_of as note_line};
 ghost use Rattle.psy_run.specs.declared.refusal.Stop.TheVariants.{Memory as no_memory};
 
@@ -70,6 +70,8 @@ pub enum Refusal {
         number: u32,
         line: u32,
     },
+    /// The trace of a run would have more than 262,144 bytes.
+    LongTrace,
 }
 
 /// Why a command stopped before anything was written.
@@ -100,7 +102,11 @@ impl Refusal {
             Refusal::Words => 2,
             Refusal::Line { .. } | Refusal::Trace { .. } => 6,
             Refusal::Image(_) | Refusal::Code { .. } => 1,
-            Refusal::TooLong(_) | Refusal::Lines | Refusal::Cycles | Refusal::Large => 7,
+            Refusal::TooLong(_)
+            | Refusal::Lines
+            | Refusal::Cycles
+            | Refusal::Large
+            | Refusal::LongTrace => 7,
         }
     }
 
@@ -110,7 +116,7 @@ impl Refusal {
     {
         match self {
             Refusal::Words => line(&Note::Words),
-            Refusal::TooLong(file) => limit(file.name(), limits::FILE_BYTES as u64),
+            Refusal::TooLong(file) => long(file),
             Refusal::Unplanned(cause) => line(&cause.note()),
             Refusal::Line { file, kind, line } => refused(file.name(), kind.number(), line),
             Refusal::Lines => limit(b"lines", limits::LINES as u64),
@@ -118,7 +124,8 @@ impl Refusal {
             Refusal::Image(place) => line(&Note::RefusedImage { place }),
             Refusal::Code { number, place } => refused(b"verify", number, place),
             Refusal::Trace { number, line } => refused(b"trace", number, line),
-            Refusal::Large => limit(b"image", limits::FILE_BYTES as u64),
+            Refusal::Large => long(File::Image),
+            Refusal::LongTrace => long(File::Trace),
         }
     }
 }
@@ -145,6 +152,13 @@ fn limit(name: &[u8], number: u64) -> Line
     ensures { result ≡ limit_line name.now number }
 {
     line(&Note::Limit { name, number })
+}
+
+// That a file has too many bytes, or would have them
+fn long(file: File) -> Line
+    ensures { result ≡ long_line file }
+{
+    limit(file.name(), limits::FILE_BYTES as u64)
 }
 
 fn refused(what: &[u8], number: u32, at: u32) -> Line

@@ -37,4 +37,6 @@ pub enum Served {
     Built(Vec<u8>),
     /// Runs the code of an image: its kernel, just booted.
     Executed(Kernel),
+    /// Writes the trace of a program's run: its kernel, which ran, and the text.
+    Traced(Kernel, Vec<u8>),
 }

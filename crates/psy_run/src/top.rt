@@ -20,7 +20,7 @@ ghost use Rattle.psy_run.specs.Asked.{AskNothing};
 ghost use Rattle.psy_run.specs.Bounds.{IsBounded, IsBorneOut, KeepsBounds};
 ghost use Rattle.psy_run.specs.Outcome.{CanServe, Ends, IsPastLimit, IsUnread, MayAnswer, Says};
 ghost use Rattle.psy_run.specs.Refusals.{status_of, line_of, file_name};
-ghost use Rattle.psy_run.specs.Services.{Executed, Leaves, Ran, Service, meaning_by, meaning_of, service_of, text_of};
+ghost use Rattle.psy_run.specs.Services.{Executed, Leaves, Ran, Service, Traced, meaning_by, meaning_of, service_of, text_of, trace_by, traced_run};
 
 use crate::commands::judge;
 use crate::laws::{borne_out, bounded, bounds, bounds_by, one_answer};
@@ -128,6 +128,28 @@ fn execute<S: Sink>(
     Ok(())
 }
 
+// Writes the trace of a kernel that ran, and leaves the kernel.
+fn write_trace<S: Sink>(
+    kernel: Kernel,
+    text: &Vec<u8>,
+    out: &mut S,
+    left: &mut Option<Kernel>,
+) -> Result<(), WriteFault>
+    requires can { CanServe (Served.Traced kernel text.now) }
+    requires empty { left.old ≡ None }
+    ensures counted { S.faults out.old ≤ S.faults out.new }
+    ensures failed { OnErr result (Rose (S.faults out.old) (S.faults out.new)) }
+    ensures unfailed { OnOk result (S.faults out.new ≡ S.faults out.old) }
+    ensures written { Written (S.held out.old) (S.held out.new) result (text_of (traced_run kernel)) }
+    ensures over { MatchResult result (λ done. Leaves (traced_run kernel) left.new) (λ fault. left.new ≡ None) }
+{
+    if let Err(fault) = write_all_of(out, text.as_slice()) {
+        return Err(fault);
+    }
+    *left = Some(kernel);
+    Ok(())
+}
+
 // Does what is served, and writes its text.
 fn serve<S: Sink>(served: Served, out: &mut S, left: &mut Option<Kernel>) -> Result<(), WriteFault>
     requires can { CanServe served }
@@ -158,6 +180,7 @@ fn serve<S: Sink>(served: Served, out: &mut S, left: &mut Option<Kernel>) -> Res
         Served::Tried(kernel) => try_run(kernel, out, left),
         Served::Built(image) => write_all_of(out, image.as_slice()),
         Served::Executed(kernel) => execute(kernel, out, left),
+        Served::Traced(kernel, text) => write_trace(kernel, &text, out, left),
         Served::Audited { acts, looks } => write_note(out, &Note::Legal { acts, looks }),
     }
 }
@@ -234,6 +257,14 @@ pub fn psyc<F: Shelf, S: Sink>(
         → (Rose (F.faults shelf.old) (F.faults shelf.new) → ⊥) → (Rose (S.faults out.old) (S.faults out.new) → ⊥)
         → ((result ≡ 0) × Grew (S.held out.old) (S.held out.new) (run_text (meaning_by unit code nexts lists said) (order_of unit said) sizes until)
         × KeepsBounds (meaning_by unit code nexts lists said) (order_of unit said) sizes until)
+        ⊎ ((result ≡ 8) × Grew (S.held out.old) (S.held out.new) []) }
+
+    // So is the trace of a run: what is written is that of the dated meaning of the program's statements.
+    ensures traced { (files : Files) (unit : Whole) (nexts : List (List (List ℕ))) (sizes : Sizes) (until : ℕ) (lists : List (List ℤ)) (said : Script)
+        → F.files shelf.old ≡ Some files → (answering (map string_bytes words.now) (Some files)).gives (Traced unit nexts sizes until lists said)
+        → (Rose (F.faults shelf.old) (F.faults shelf.new) → ⊥) → (Rose (S.faults out.old) (S.faults out.new) → ⊥)
+        → ((result ≡ 0) × Grew (S.held out.old) (S.held out.new) (trace_by unit nexts sizes until lists said)
+        × KeepsBounds (meaning_of unit nexts lists said) (order_of unit said) sizes until)
         ⊎ ((result ≡ 8) × Grew (S.held out.old) (S.held out.new) []) }
 
     // A limit: the refusal's line was written; where a file was too long, the shelf took one byte more than a file may have.

@@ -3,7 +3,8 @@ use Rattle.std.proofs.Common.{◌≡◌, ◌∙◌, sym, ap, ℕ, List, [], ◌�
 use Rattle.std.proofs.lemmas.Option.{none-some, same_Some}
 use Rattle.psy_text.specs.Words.{number_of}
 use Rattle.psy_run.specs.Asked.{Asks, Command, Exec, asks_audit, asks_audit_with_script, asks_build, asks_check, asks_exec, asks_exec_with_inputs}
-use Rattle.psy_run.specs.Asked.{asks_exec_with_script, asks_graph, asks_make, asks_run, asks_run_with_inputs, asks_run_with_script, asks_trial}
+use Rattle.psy_run.specs.Asked.{asks_exec_with_script, asks_graph, asks_make, asks_run, asks_run_with_inputs, asks_run_with_script, asks_trace}
+use Rattle.psy_run.specs.Asked.{asks_trace_with_inputs, asks_trace_with_script, asks_trial}
 
 -- The `exec` that words ask for, by the first of them and their number
 abbrev exec_in : List (List ℕ) → Option Command
@@ -31,6 +32,9 @@ asked words command (asks_trial number date seed until is seeded dated) = ap exe
 asked words command (asks_build program is) = ap exec_in is
 asked words command (asks_audit program date trace until is dated) = ap exec_in is
 asked words command (asks_audit_with_script program date trace script until is dated) = ap exec_in is
+asked words command (asks_trace program date until is dated) = ap exec_in is
+asked words command (asks_trace_with_inputs program date inputs until is dated) = ap exec_in is
+asked words command (asks_trace_with_script program date inputs script until is dated) = ap exec_in is
 asked words command (asks_exec image date until is dated) = ap exec_in is ∙ ap (option_map (λ until. Exec image until None None)) dated.value
 asked words command (asks_exec_with_inputs image date inputs until is dated) =
     ap exec_in is ∙ ap (option_map (λ until. Exec image until (Some inputs) None)) dated.value

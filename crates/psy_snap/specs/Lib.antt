@@ -3,4 +3,7 @@ pub mod Bytes
 pub mod Cuts
 pub mod Faults
 pub mod Forms
+pub mod Plans
 pub mod Reading
+pub mod Rows
+pub mod Shapes

@@ -1,33 +1,19 @@
 //! The numbers of a state: each is read at the front of the bytes, or it is at fault there.
-ghost use Rattle.std.specs.Prelude.{◌≡◌, ◌<◌, ◌≤◌, IfOk, false, length, take, true};
-ghost use Rattle.std.specs.Int.{from_le_bytes, w32, w64};
-ghost use Rattle.psy_snap.specs.Cuts.{any_number, flag_after, long_below, one_of, up_to};
+ghost use Rattle.std.specs.Prelude.{◌≡◌, ◌<◌, ◌≤◌, IfOk, false, true};
+ghost use Rattle.psy_snap.specs.Cuts.{any_number, cell_of, flag_after, long_below, one_of, up_to};
 ghost use Rattle.psy_snap.specs.declared.fault.ReadError.TheVariants.{Bad};
-ghost use Rattle.psy_snap.specs.Reading.{Gives, field_at, word_at};
+ghost use Rattle.psy_snap.specs.Forms.{fits_type};
+ghost use Rattle.psy_snap.specs.Reading.{Gives, field_at, kept_ask, word_at};
 
 use crate::fault::ReadError;
+use crate::numbers::{eight, four};
+use psy_arith::Width;
 
 /// A field that is missing, cut or out of its range where so many bytes are left.
 fn bad(left: usize) -> ReadError
     ensures { result ≡ Bad 1 left }
 {
     ReadError::Bad { number: 1, left }
-}
-
-fn four(bytes: &[u8]) -> u32
-    requires { 4 ≤ length bytes.now }
-    ensures { result ≡ from_le_bytes w32 (take 4 bytes.now) }
-{
-    u32::from_le_bytes([bytes[0], bytes[1], bytes[2], bytes[3]])
-}
-
-fn eight(bytes: &[u8]) -> u64
-    requires { 8 ≤ length bytes.now }
-    ensures { result ≡ from_le_bytes w64 (take 8 bytes.now) }
-{
-    u64::from_le_bytes([
-        bytes[0], bytes[1], bytes[2], bytes[3], bytes[4], bytes[5], bytes[6], bytes[7],
-    ])
 }
 
 /// Four bytes as a number.
@@ -109,4 +95,41 @@ pub fn flag_after(count: u64, bytes: &[u8]) -> Result<(u32, &[u8]), ReadError>
         return Err(bad(bytes.len()));
     }
     Ok((flag, rest))
+}
+
+/// Whether a number is one of the type, where one is given.
+fn fits_type(width: Option<Width>, number: i64) -> bool
+    ensures { result ≡ fits_type width number }
+{
+    match width {
+        None => true,
+        Some(Width::W8) => (-0x80..0x80).contains(&number),
+        Some(Width::W16) => (-0x8000..0x8000).contains(&number),
+        Some(Width::W32) => (-0x8000_0000..0x8000_0000).contains(&number),
+        Some(Width::W64) => true,
+    }
+}
+
+/// A cell of the type.
+#[tactic(auto, unfolding(crate::specs::Reading::field_at))]
+pub fn cell_of(width: Option<Width>, bytes: &[u8]) -> Result<(u64, &[u8]), ReadError>
+    ensures { Gives (λ x. (x.0, x.1.now)) result (field_at (cell_of width) bytes.now) }
+{
+    let (number, rest) = long(bytes)?;
+    if !fits_type(width, number.cast_signed()) {
+        return Err(bad(bytes.len()));
+    }
+    Ok((number, rest))
+}
+
+/// The value of a ring that stands behind so many others: the first value, where no more were published.
+#[tactic(auto, unfolding(crate::specs::Reading::field_at))]
+pub fn kept(published: u64, init: i32, back: u64, bytes: &[u8]) -> Result<(u32, &[u8]), ReadError>
+    ensures { Gives (λ x. (x.0, x.1.now)) result (field_at (kept_ask published init back) bytes.now) }
+{
+    let (number, rest) = word(bytes)?;
+    if back >= published && number.cast_signed() != init {
+        return Err(bad(bytes.len()));
+    }
+    Ok((number, rest))
 }

@@ -2,13 +2,19 @@
 //! It may know plans, openings and action graphs; nothing that runs.
 #![tactic(auto)]
 
+mod agents;
 mod fault;
 mod fields;
 mod figures;
 pub mod laws;
+mod numbers;
 mod page;
 mod phases;
+mod reading;
 mod spelling;
+mod streams;
+mod variables;
 
 pub use fault::{SpellFault, StateFault};
+pub use reading::read;
 pub use spelling::spell;

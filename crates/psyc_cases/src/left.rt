@@ -1,11 +1,12 @@
 //! What a call of `psyc` is to leave.
 use psy_kernel::{Kernel, Stage};
 
-// The words ask for a run, of a program or of an image, or for a trial.
+// The words ask for a run, of a program or of an image, for a trace or for a trial.
 fn is_run(words: &[String]) -> bool {
     match words {
         [command, ..] => {
-            command.as_str() == "run" || command.as_str() == "trial" || command.as_str() == "exec"
+            let word = command.as_str();
+            word == "run" || word == "trial" || word == "exec" || word == "trace"
         }
         [] => false,
     }

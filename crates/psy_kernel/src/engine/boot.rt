@@ -37,7 +37,7 @@ fn stalls_of(alloc: Global, script: &Script, agent: u32) -> Result<Items<Stall>,
 }
 
 /// The charge of an agent none of whose actions has started.
-fn charge_of(alloc: Global, script: &Script, agent: u32) -> Result<Charge, Memory>
+pub(super) fn charge_of(alloc: Global, script: &Script, agent: u32) -> Result<Charge, Memory>
     requires { AllPairs StallBefore script.now.stalls }
     ensures { IfOk result (λ charge. charge ≡ first_charge script.now agent) }
 {
@@ -75,7 +75,7 @@ fn runners_of(alloc: Global, code: &Code, script: &Script) -> Result<Vec<Runner>
 }
 
 /// So many agents, in the order of declaration.
-fn declared_of(alloc: Global, agents: u32) -> Result<Vec<u32>, Memory>
+pub(super) fn declared_of(alloc: Global, agents: u32) -> Result<Vec<u32>, Memory>
     ensures { IfOk result (λ declared. declared.items ≡ range_with_len 0 agents) }
 {
     let mut declared = Vec::new(alloc);

@@ -32,7 +32,7 @@ fn budget_in(points: &[Point], point: u32) -> u32
 }
 
 /// The actions of these seats that start at the date start: they are of agents that moved there.
-fn start_all(
+pub(super) fn start_all(
     movers: &[u32],
     seats: &[Seat],
     agents: &[AgentDecl],

@@ -15,7 +15,7 @@ use psy_history::{Inputs, Round, Script, processors_of};
 use std::alloc::Global;
 
 /// So many processors, from the first to the last.
-fn declared_of(alloc: Global, processors: u32) -> Result<Vec<u32>, Memory>
+pub(super) fn declared_of(alloc: Global, processors: u32) -> Result<Vec<u32>, Memory>
     ensures { IfOk result (λ declared. declared.items ≡ range_with_len 0 processors) }
 {
     let mut declared = Vec::new(alloc);
@@ -26,7 +26,7 @@ fn declared_of(alloc: Global, processors: u32) -> Result<Vec<u32>, Memory>
 }
 
 /// How many rounds are in force from cycle 0 on.
-fn turned_first(rounds: &[Round]) -> usize
+pub(super) fn turned_first(rounds: &[Round]) -> usize
     requires { AllPairs (λ r q. r.cycle < q.cycle) rounds.now }
     ensures { AreTurned rounds.now result 0 }
 {

@@ -1,7 +1,7 @@
 -- What is left of the proof of `asked::of_four`.
 use Rattle.std.proofs.Common.{[], ◌∷◌, ap, codes}
 use Rattle.psy_lists.proofs.lemmas.Texts.{same_text}
-use Rattle.psy_run.specs.Asked.{asks_audit, asks_exec_with_inputs, asks_run_with_inputs}
+use Rattle.psy_run.specs.Asked.{asks_audit, asks_exec_with_inputs, asks_run_with_inputs, asks_trace_with_inputs}
 use Rattle.psy_run.proofs.AskedLemmas.{undated_four}
 use Rattle.psy_run.proofs.asked.of_four.Goals as goal
 
@@ -21,6 +21,12 @@ pub returns-then-eq-3 : goal.returns-then-eq-3
 returns-then-eq-3 c =
     let command = same_text c.args.command.now (codes "audit") c.if-eq-3.ensures in
     asks_audit c.args.program.now c.args.until.now c.args.inputs.now c.in_ok-until.until
+    (ap (λ w. w ∷ c.args.program.now ∷ c.args.until.now ∷ c.args.inputs.now ∷ []) command) (rw c.as_bytes.ensures.value at c.in_ok-until.ensures)
+
+pub returns-then-eq-4 : goal.returns-then-eq-4
+returns-then-eq-4 c =
+    let command = same_text c.args.command.now (codes "trace") c.if-eq-4.ensures in
+    asks_trace_with_inputs c.args.program.now c.args.until.now c.args.inputs.now c.in_ok-until.until
     (ap (λ w. w ∷ c.args.program.now ∷ c.args.until.now ∷ c.args.inputs.now ∷ []) command) (rw c.as_bytes.ensures.value at c.in_ok-until.ensures)
 
 pub returns-in_err-until : goal.returns-in_err-until

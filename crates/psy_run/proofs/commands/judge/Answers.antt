@@ -3,7 +3,7 @@ use Rattle.std.proofs.Common.{refl, subst, []}
 use Rattle.std.specs.Prelude.{map, string_bytes, option_copied}
 use Rattle.psy_run.specs.declared.refusal.Refusal.TheVariants.{Words}
 use Rattle.psy_run.specs.Answer.{making, trying}
-use Rattle.psy_run.specs.Asked.{Asks, asked_by, Run, Check, Graph, Make, Trial, Build, Exec, Audit}
+use Rattle.psy_run.specs.Asked.{Asks, asked_by, Run, Check, Graph, Make, Trial, Build, Exec, Audit, Trace}
 use Rattle.psy_run.specs.Outcome.{halts_refused}
 use Rattle.psy_run.specs.Services.{service_of}
 use Rattle.psy_run.specs.Steps.{asking}
@@ -77,3 +77,9 @@ returns-in-Some-Audit-clause-ok g c = gives_last (asking _) _ (Audit c.in-Some-A
 
 pub returns-in-Some-Audit-clause-err : goal.returns-in-Some-Audit-clause-err
 returns-in-Some-Audit-clause-err g c = halts_last (asking _) _ _ _ _ (Audit c.in-Some-Audit.program.now c.in-Some-Audit.until c.in-Some-Audit.trace.now (option_copied c.in-Some-Audit.script)) _ (subst (λ read. Asks (map string_bytes c.args.words.now) (asked_by read)) c.in-Some-Audit.field-0-is c.in-Some-Audit.ensures) c.audit.ensures.err
+
+pub returns-in-Some-Trace-clause-ok : goal.returns-in-Some-Trace-clause-ok
+returns-in-Some-Trace-clause-ok g c = gives_last (asking _) _ (Trace c.in-Some-Trace.program.now c.in-Some-Trace.until (option_copied c.in-Some-Trace.inputs) (option_copied c.in-Some-Trace.script)) service_of _ (subst (λ read. Asks (map string_bytes c.args.words.now) (asked_by read)) c.in-Some-Trace.field-0-is c.in-Some-Trace.ensures) c.trace.ensures.ok
+
+pub returns-in-Some-Trace-clause-err : goal.returns-in-Some-Trace-clause-err
+returns-in-Some-Trace-clause-err g c = halts_last (asking _) _ _ _ _ (Trace c.in-Some-Trace.program.now c.in-Some-Trace.until (option_copied c.in-Some-Trace.inputs) (option_copied c.in-Some-Trace.script)) _ (subst (λ read. Asks (map string_bytes c.args.words.now) (asked_by read)) c.in-Some-Trace.field-0-is c.in-Some-Trace.ensures) c.trace.ensures.err

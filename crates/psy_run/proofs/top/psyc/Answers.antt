@@ -1,5 +1,5 @@
 -- What is left of the proof of `top::psyc`.
-use Rattle.psy_run.specs.Services.{Executed, Ran}
+use Rattle.psy_run.specs.Services.{Executed, Ran, Traced}
 use Rattle.psy_run.proofs.TopLemmas.{ends_answered, ends_complete, ends_done, ends_words, ends_listed, ends_read, ends_cut_short, ends_for_memory, ends_left, ends_over, ends_none_left, ends_headline}
 use Rattle.psy_run.proofs.top.psyc.Goals as goal
 
@@ -49,3 +49,6 @@ returns-clause-headline g c files unit nexts sizes until lists said = ends_headl
 
 pub returns-clause-executed : goal.returns-clause-executed
 returns-clause-executed g c files unit code nexts sizes until lists said = ends_headline c.one_answer.ensures.same c.bounded.ensures _ _ _ _ _ _ _ c.answer.ensures.ends files (Executed unit code nexts sizes until lists said)
+
+pub returns-clause-traced : goal.returns-clause-traced
+returns-clause-traced g c files unit nexts sizes until lists said = ends_headline c.one_answer.ensures.same c.bounded.ensures _ _ _ _ _ _ _ c.answer.ensures.ends files (Traced unit nexts sizes until lists said)

@@ -16,6 +16,9 @@ returns-in-Tried-clause-bounded g c = is_bounded c.bounds.ensures c.bounds_by.en
 pub returns-in-Executed-clause-bounded : goal.returns-in-Executed-clause-bounded
 returns-in-Executed-clause-bounded g c = is_bounded c.bounds.ensures c.bounds_by.ensures c.args.served c.requires.can
 
+pub returns-in-Traced-clause-bounded : goal.returns-in-Traced-clause-bounded
+returns-in-Traced-clause-bounded g c = is_bounded c.bounds.ensures c.bounds_by.ensures c.args.served c.requires.can
+
 pub returns-in-Audited-clause-written : goal.returns-in-Audited-clause-written
 returns-in-Audited-clause-written g c =
     let old = g.S.Sink.held c.args.out.now in

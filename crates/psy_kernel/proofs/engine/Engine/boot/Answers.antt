@@ -50,6 +50,7 @@ invariant_of-result c =
       plan = c.requires.plan;
       inputs = subst (AreInputs unit) lists c.requires.inputs;
       script = c.requires.script;
+      parts = tt {0};
       sound = subst (λ i. IsSoundFor plan (whole_of plan) i (stalls_of script)) lists (λ its. (goes_well plan its c.fitting.ensures c.args.inputs.lists (stalls_of script) c.requires.inputs).opened);
       behind = omega arith;
       before = λ last first. absurd (cc);

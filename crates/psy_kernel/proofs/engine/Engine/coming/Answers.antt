@@ -1,5 +1,5 @@
 -- What is left of the proof of `engine::Engine::coming`.
-use Rattle.std.proofs.Common.{◌≡◌, ℕ, zero, suc, refl, [], ◌∷◌, ◌+◌, ◌-◌, ◌<◌, ◌≤◌, ◌^◌, List, Option, None, Some, length, get_or, map, slice_get, ℤ, sym, ap, ◌∙◌, subst, arith}
+use Rattle.std.proofs.Common.{◌≡◌, ℕ, zero, suc, refl, [], ◌∷◌, ◌+◌, ◌-◌, ◌<◌, ◌≤◌, ◌^◌, List, Option, None, Some, length, get_or, map, slice_get, sym, ap, ◌∙◌, subst, arith}
 use Rattle.std.proofs.lemmas.List.{length-map}
 use Rattle.std.proofs.lemmas.Option.{slice_get_read}
 use Rattle.std.specs.List.{All}
@@ -7,10 +7,9 @@ use Rattle.psy_base.specs.declared.limits.TheConstants.{RING}
 use Rattle.psy_dates.specs.Standing.{dates_done}
 use Rattle.psy_dates.specs.declared.seat.Seat.{Seat}
 use Rattle.psy_history.specs.Scripts.{stalls_of}
-use Rattle.psy_queue.specs.Order.{Queued}
 use Rattle.psy_ready.specs.Choice.{IsPick}
 use Rattle.psy_kernel.specs.Engines.{EngineState, done_on, history_of, next_date, ties}
-use Rattle.psy_kernel.specs.Seeing.{CanSee, sight_in}
+use Rattle.psy_kernel.specs.Seeing.{sight_in}
 use Rattle.psy_kernel.specs.Standing.{EngineStands, IsChosen, state_of}
 use Rattle.psy_kernel.specs.Units.{IsLookAt, served_at}
 use Rattle.psy_kernel.specs.declared.engine.Engine.TheInside.{Inside}

@@ -152,6 +152,7 @@ invariant_of-self c =
       plan = h.plan;
       inputs = subst (AreInputs unit) lists h.inputs;
       script = h.script;
+      parts = h.parts;
       sound = subst (λ i. IsSoundFor k.plan (opening_in k) i (stalls_of k.script)) lists h.sound;
       behind = omega (arith, later k date due, dates);
       before = λ last first done. absurd (omega (arith, later k date due, dates, first, done));

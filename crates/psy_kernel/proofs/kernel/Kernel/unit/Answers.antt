@@ -1,5 +1,5 @@
 -- What is left of the proof of `kernel::Kernel::unit`.
-use Rattle.std.proofs.Common.{◌≡◌, ◌<◌, ap, sym, subst, ◌∙◌, arith}
+use Rattle.std.proofs.Common.{◌≡◌, ap, sym, subst, ◌∙◌, arith}
 use Rattle.psy_history.specs.Processors.{processors}
 use Rattle.psy_kernel.specs.Engines.{history_of, ties}
 use Rattle.psy_kernel.specs.Progress.{Progress, next_processor}
@@ -7,7 +7,7 @@ use Rattle.psy_kernel.specs.Units.{IsLookAt, served_at}
 use Rattle.psy_kernel.specs.declared.kernel.LastUnit.{LastUnit}
 use Rattle.psy_kernel.proofs.Kernels.{stands_last}
 use Rattle.psy_kernel.proofs.LastUnits.{last_stands}
-use Rattle.psy_kernel.proofs.Units.{early_unit, just, unit_before}
+use Rattle.psy_kernel.proofs.Units.{just, unit_before}
 use Rattle.psy_kernel.proofs.kernel.Kernel.unit.Goals as goal
 
 pub coming-next-requires-clause-known : goal.coming-next-requires-clause-known

@@ -1,4 +1,4 @@
--- What is left of the proof of `commands::run`.
+-- What is left of the proof of `ready::ready`.
 use Rattle.std.proofs.Common.{◌∙◌}
 use Rattle.std.specs.Prelude.{[], option_copied}
 use Rattle.psy_run.specs.Answer.{compiling, supplying, listing, scripting}
@@ -9,7 +9,7 @@ use Rattle.psy_run.proofs.Courses.{halts_exit, halts_first, halts_later}
 use Rattle.psy_run.proofs.ToldLemmas.{halts_behind, gives_behind, run_unlisted, run_unscripted, run_unpaced, run_gives, can_run, ran_is}
 use Rattle.psy_run.proofs.LongFiles.{took_exit, took_for_memory, took_never, supplying_never_long, pacing_never_long}
 use Rattle.psy_run.proofs.FaultLemmas.{unfailed_behind, unfailed_exit}
-use Rattle.psy_run.proofs.commands.run.Goals as goal
+use Rattle.psy_run.proofs.ready.ready.Goals as goal
 
 pub returns-in_err-unit-clause-err : goal.returns-in_err-unit-clause-err
 returns-in_err-unit-clause-err g c = halts_exit _ _ _ _ _ _ c.from_residual.ensures.1 (halts_first (compiling _ _) _ _ _ _ _ c.in_err-unit.ensures.err)
