@@ -1,4 +1,7 @@
 //! What a run leaves when it is over: its state as bytes, or the agent that is busy.
+ghost use Rattle.std.specs.Prelude.{◌≡◌};
+ghost use Rattle.psy_kernel.specs.Progress.{booted};
+
 use crate::drive::Drive;
 use crate::runs::text_of;
 use psy_dates::Opening;
@@ -42,6 +45,14 @@ fn tell_kernel<S: Sink>(alloc: Global, kernel: &Kernel, out: &mut S) -> Option<(
     }
 }
 
+// Runs a kernel to its end, and writes what it leaves.
+fn tell_run<S: Sink>(alloc: Global, kernel: &mut Kernel, out: &mut S) -> Option<()>
+    requires booted { kernel.old ≡ booted kernel.old.plan kernel.old.inputs kernel.old.script }
+{
+    text_of(alloc, kernel, Some(Drive::Tick))?;
+    tell_kernel(alloc, kernel, out)
+}
+
 /// Tells what the run leaves that the words ask for. None where they ask for no run, or that couldn't be written.
 pub fn tell_left<F: Shelf, S: Sink>(
     alloc: Global,
@@ -50,10 +61,7 @@ pub fn tell_left<F: Shelf, S: Sink>(
     out: &mut S,
 ) -> Option<()> {
     match kernel_asked(alloc, words, shelf) {
-        Ok(Some(mut kernel)) => {
-            text_of(alloc, &mut kernel, Some(Drive::Tick))?;
-            tell_kernel(alloc, &kernel, out)
-        }
+        Ok(Some(mut kernel)) => tell_run(alloc, &mut kernel, out),
         Ok(None) | Err(_) => None,
     }
 }
