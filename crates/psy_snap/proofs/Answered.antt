@@ -9,6 +9,7 @@ use Rattle.psy_snap.specs.declared.fault.StateFault.TheVariants as faults
 use Rattle.psy_snap.specs.Bytes.{spelling}
 use Rattle.psy_snap.specs.Faults.{faults_of, least_fault}
 use Rattle.psy_snap.specs.Forms.{Form}
+use Rattle.psy_snap.specs.Ranges.{FitsState}
 use Rattle.psy_snap.specs.Reading.{Gives, IsWithin, answer_of, state_at}
 use Rattle.psy_snap.specs.Shapes.{HasForm}
 use Rattle.psy_snap.proofs.Spelled.{AreBytes}
@@ -42,9 +43,14 @@ module _ (form : Form) (bytes : List ℕ) where
   is_sound (Err errors.Memory) given = tt
 
   pub has_form : (r : Result Opening ReadError) → AreBytes bytes → Given r → IfOk (answered r) (HasForm form)
-  has_form (Ok it) are given = (state_spelled form bytes it [] are given).1
+  has_form (Ok it) are given = (state_spelled form bytes it [] are given).1.first
   has_form (Err (errors.Bad number left)) are given = tt
   has_form (Err errors.Memory) are given = tt
+
+  pub in_ranges : (r : Result Opening ReadError) → AreBytes bytes → Given r → IfOk (answered r) FitsState
+  in_ranges (Ok it) are given = (state_spelled form bytes it [] are given).1.second
+  in_ranges (Err (errors.Bad number left)) are given = tt
+  in_ranges (Err errors.Memory) are given = tt
 
   pub is_fault : (r : Result Opening ReadError) → Given r → (number place : ℕ) → answered r ≡ Err (faults.Fault number place)
       → least_fault (faults_of form bytes) ≡ Some (record { number = number; place = place })

@@ -1,20 +1,35 @@
 -- The lemmas of this crate, by subject.
+mod AgentsFound
 mod AgentsRead
+mod AgentsSound
 mod Answered
+mod CellsFit
+mod CopiesCarried
 mod FiguresRead
+mod Finds
 mod Found
+mod LeastQueues
 mod Legs
 mod Loops
+mod MessagesFound
+mod MessagesRise
+mod NodesStart
 mod Parts
+mod PartsFound
+mod PartsRight
 mod Places
 mod Readable
 pub mod Remainders
 mod SlotTypes
 mod Spelled
+mod StatesFound
 mod StatesRead
 mod StatesSpelled
 mod Steps
 mod StreamsRead
+mod StreamsSound
+mod VariablesFound
 mod VariablesRead
+mod VariablesSound
 mod Wholes
 mod Written

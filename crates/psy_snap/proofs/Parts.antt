@@ -1,6 +1,5 @@
 -- What reading a part comes to, by what is cut of it: no fault and the place where it goes on, or the least fault.
 use Rattle.std.proofs.Common.{◌≡◌, ◌∙◌, ℕ, suc, ◌+◌, ◌-◌, ◌≤◌, Bool, true, false, cond, ltb, List, [], ◌∷◌, ◌++◌, length, drop, Option, Some, None, Result, Ok, Err, refl, sym, ap, subst, arith}
-use Rattle.std.specs.Prelude.{⊤}
 use Rattle.std.proofs.lemmas.Bool.{ltb-false}
 use Rattle.std.proofs.lemmas.Grind.{flat_map-append}
 use Rattle.std.proofs.lemmas.List.{length-drop}
@@ -16,17 +15,17 @@ use Rattle.psy_snap.proofs.Places.{Above, Onward, Decides, above_less, onward_th
 abbrev pub seen : ℕ → List ℕ → At
 seen total bytes = Some (total - length bytes, bytes)
 
--- What reading at that many bytes before the end comes to
+-- What reading at that many bytes before the end comes to: of memory it takes none
 abbrev pub Fits : {A : Type 0} → ℕ → ℕ → Result (A × List ℕ) ReadError → List Fault → At → Type 0
 Fits total len (Ok x) faults on = (faults ≡ []) × (on ≡ seen total x.1) × (length x.1 ≤ len)
-Fits total len (Err errors.Memory) faults on = ⊤
+Fits total len (Err errors.Memory) faults on = ⊥
 Fits total len (Err (errors.Bad number left)) faults on = (left ≤ len) × Decides faults on (record { number = number; place = total - left })
 
 -- ---- one part behind another
 
 pub fits_longer : {A : Type 0} (total less len : ℕ) (r : Result (A × List ℕ) ReadError) (faults : List Fault) (on : At) → less ≤ len → Fits total less r faults on → Fits total len r faults on
 fits_longer total less len (Ok x) faults on le fits = (fits.0, fits.1, omega (arith, le, fits.2))
-fits_longer total less len (Err errors.Memory) faults on le fits = tt
+fits_longer total less len (Err errors.Memory) faults on le fits = absurd fits
 fits_longer total less len (Err (errors.Bad number left)) faults on le fits = (omega (arith, le, fits.0), fits.1)
 
 pub fits_then : {A B : Type 0} (total len : ℕ) (r : Result (A × List ℕ) ReadError) (next : A → List ℕ → Result (B × List ℕ) ReadError)
@@ -37,7 +36,7 @@ fits_then total len (Ok x) next faults more mid on fits onward behind =
     let none : faults ++ more ≡ more = ap (λ fs. fs ++ more) fits.0 in
     subst (λ fs. Fits total len (next x.0 x.1) fs on) (sym none)
     (fits_longer total (length x.1) len (next x.0 x.1) more on fits.2 (behind x.0 x.1 refl fits.1 fits.2))
-fits_then total len (Err errors.Memory) next faults more mid on fits onward behind = tt
+fits_then total len (Err errors.Memory) next faults more mid on fits onward behind = absurd fits
 fits_then total len (Err (errors.Bad number left)) next faults more mid on fits onward behind =
     (fits.0, decides_then mid on faults more (record { number = number; place = total - left }) fits.1 onward)
 
@@ -45,7 +44,7 @@ fits_then total len (Err (errors.Bad number left)) next faults more mid on fits 
 pub fits_map : {A B : Type 0} (total len : ℕ) (r : Result (A × List ℕ) ReadError) (f : A → B) (faults : List Fault) (on : At) → Fits total len r faults on
     → Fits total len (go_on r (λ a rest. Ok (f a, rest))) faults on
 fits_map total len (Ok x) f faults on fits = fits
-fits_map total len (Err errors.Memory) f faults on fits = tt
+fits_map total len (Err errors.Memory) f faults on fits = absurd fits
 fits_map total len (Err (errors.Bad number left)) f faults on fits = fits
 
 -- ---- fields that are cut

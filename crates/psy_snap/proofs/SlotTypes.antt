@@ -26,7 +26,7 @@ type_at (s ∷ slots) cells i d less =
     ]
 
 module _ (agent : AgentDecl) (cells : ℕ) where
-  types_count : length (cell_types agent cells) ≡ cells
+  pub types_count : length (cell_types agent cells) ≡ cells
   unfolding cell_types
   types_count =
       omega (
@@ -40,7 +40,7 @@ module _ (agent : AgentDecl) (cells : ℕ) where
   pub asks_count : length (map cell_of (cell_types agent cells)) ≡ cells
   asks_count = length-map (cell_types agent cells) cell_of ∙ types_count
 
-  is_type : (i : ℕ) → i < cells → get_or (cell_types agent cells) i None ≡ slot_of agent.slots i
+  pub is_type : (i : ℕ) → i < cells → get_or (cell_types agent cells) i None ≡ slot_of agent.slots i
   unfolding cell_types
   is_type i less = get_or-take cells (flat_map types_of_slot agent.slots ++ replicate cells None) i None less ∙ type_at agent.slots cells i None less
 

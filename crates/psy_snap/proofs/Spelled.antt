@@ -1,16 +1,19 @@
 -- What is read is spelled by its bytes, and has the shape that its form asks for.
 use Rattle.std.proofs.Common.{◌≡◌, ◌∙◌, ℕ, zero, suc, ◌+◌, ◌^◌, ◌<◌, ◌≤◌, inl, inr, Bool, true, false, ltb, List, [], ◌∷◌, ◌++◌, append-nil, append_assoc, get_or, map, replicate, length, take, drop, Option, Some, None, Result, Ok, refl, sym, ap, subst, arith}
-use Rattle.std.specs.Prelude.{⊤, ℤ, slice_get}
+use Rattle.std.specs.Prelude.{⊤, ℤ, FitsSigned, slice_get}
 use Rattle.std.specs.Int.{w32, w64, cast_signed, from_le_bytes}
-use Rattle.std.specs.List.{flat_map}
+use Rattle.std.specs.List.{All, flat_map}
 use Rattle.std.proofs.lemmas.Bool.{cases_lt, ltb-false}
 use Rattle.std.proofs.lemmas.Int.{of_z-to_z}
 use Rattle.std.proofs.lemmas.List.{get_or-drop, get_or-take, get_or_past, length-take, take-append-drop}
 use Rattle.std.proofs.lemmas.List.Concat.{flat_map-cons}
+use Rattle.std.proofs.lemmas.List.Elements.{All-cons, All-nil}
 use Rattle.std.proofs.lemmas.Nat.{le_bytes_4, le_bytes_8}
+use mir.ValLaws.{to_z-Fits}
 use Rattle.psy_snap.specs.declared.fault.ReadError.{ReadError}
 use Rattle.psy_snap.specs.Bytes.{cell_bytes, long_bytes, number_bytes, value_bytes}
 use Rattle.psy_snap.specs.Cuts.{Ask, number_in, width_of}
+use Rattle.psy_snap.specs.Ranges.{IfThere}
 use Rattle.psy_snap.specs.Reading.{each_at, field_at, said_at}
 use Rattle.psy_snap.specs.Shapes.{AreOf}
 use Rattle.psy_snap.proofs.FiguresRead.{optional}
@@ -149,20 +152,25 @@ each_reads Has spell Good step one (form ∷ forms) xs ys bytes rest good are e 
 
 -- ---- values and cells
 
--- Nothing is asked of their shape.
-abbrev Any : {X : Type 0} → Ask → X → Type 0
-Any ask x = ⊤
+-- What holds of each that was read holds of all of them.
+pub pairs_all : {F X : Type 0} (P : X → Type 0) (forms : List F) (xs : List X) → Pairs (λ form x. P x) forms xs → All P xs
+pairs_all P [] [] are = All-nil P
+pairs_all P [] (x ∷ xs) are = absurd are
+pairs_all P (form ∷ forms) [] are = absurd are
+pairs_all P (form ∷ forms) (x ∷ xs) are = All-cons P x xs are.0 (pairs_all P forms xs are.1)
 
 abbrev pub IsLong : Bool → Ask → Type 0
 IsLong long ask = ask.long ≡ long
 
-said_adds : {X : Type 0} (spell : X → List ℕ) (say : ℕ → X) (long : Bool) → ((n : ℕ) → n < most_as long → spell (say n) ≡ bytes_as long n)
-    → (ask : Ask) (xs ys : List X) (bytes rest : List ℕ) → IsLong long ask → AreBytes bytes → said_at say ask xs bytes ≡ Ok (ys, rest) → Adds Any spell ask xs ys bytes rest
-said_adds spell say long spells ask xs ys bytes rest wide are e =
+said_adds : {X : Type 0} (spell : X → List ℕ) (P : X → Type 0) (say : ℕ → X) (long : Bool) → ((n : ℕ) → n < most_as long → spell (say n) ≡ bytes_as long n)
+    → ((n : ℕ) → n < most_as long → P (say n)) → (ask : Ask) (xs ys : List X) (bytes rest : List ℕ) → IsLong long ask → AreBytes bytes → said_at say ask xs bytes ≡ Ok (ys, rest)
+    → Adds (λ ask x. P x) spell ask xs ys bytes rest
+said_adds spell P say long spells fits ask xs ys bytes rest wide are e =
     let (n, read, said) = said_ok (field_at ask bytes) (λ n. xs ++ say n ∷ []) ys rest e in
     let (reads, small) = field_reads ask bytes n rest are read in
-    let front : bytes_as ask.long n ≡ spell (say n) = ap (λ b. bytes_as b n) wide ∙ sym (spells n (subst (λ b. n < most_as b) wide small)) in
-    record { part = say n; behind = sym said; has = tt; reads = subst (λ bs. Reads bytes bs rest) front reads }
+    let below : n < most_as long = subst (λ b. n < most_as b) wide small in
+    let front : bytes_as ask.long n ≡ spell (say n) = ap (λ b. bytes_as b n) wide ∙ sym (spells n below) in
+    record { part = say n; behind = sym said; has = fits n below; reads = subst (λ bs. Reads bytes bs rest) front reads }
 
 value_spelled : (n : ℕ) → n < most_as false → value_bytes (cast_signed w32 n) ≡ bytes_as false n
 value_spelled n small = ap number_bytes (of_z-to_z w32 n small)
@@ -170,28 +178,40 @@ value_spelled n small = ap number_bytes (of_z-to_z w32 n small)
 cell_spelled : (n : ℕ) → n < most_as true → cell_bytes (cast_signed w64 n) ≡ bytes_as true n
 cell_spelled n small = ap long_bytes (of_z-to_z w64 n small)
 
--- As many as were asked for, spelled by their bytes
-pub record Spells {X : Type 0} (spell : X → List ℕ) (count : ℕ) (xs : List X) (bytes rest : List ℕ) : Type 0 where
+-- A number with its sign is in its range.
+value_fits : (n : ℕ) → n < most_as false → FitsSigned w32 (cast_signed w32 n)
+value_fits n small = to_z-Fits w32 n (record { fits = small })
+
+cell_fits : (n : ℕ) → n < most_as true → FitsSigned w64 (cast_signed w64 n)
+cell_fits n small = to_z-Fits w64 n (record { fits = small })
+
+-- As many as were asked for, of which each is so, spelled by their bytes
+pub record Spells {X : Type 0} (spell : X → List ℕ) (P : X → Type 0) (count : ℕ) (xs : List X) (bytes rest : List ℕ) : Type 0 where
   pub count_is : length xs ≡ count
+  pub all : All P xs
   pub reads : Reads bytes (flat_map spell xs) rest
 
-spells_all : {X : Type 0} (spell : X → List ℕ) (asks : List Ask) (xs : List X) (bytes rest : List ℕ) → AddsAll Any spell asks [] xs bytes rest → Spells spell (length asks) xs bytes rest
-spells_all spell asks xs bytes rest all = record {
-  count_is = ap length all.behind ∙ pairs_count Any asks all.parts all.have;
+spells_all : {X : Type 0} (spell : X → List ℕ) (P : X → Type 0) (asks : List Ask) (xs : List X) (bytes rest : List ℕ) → AddsAll (λ ask x. P x) spell asks [] xs bytes rest
+    → Spells spell P (length asks) xs bytes rest
+spells_all spell P asks xs bytes rest all = record {
+  count_is = ap length all.behind ∙ pairs_count (λ ask x. P x) asks all.parts all.have;
+  all = subst (All P) (sym all.behind) (pairs_all P asks all.parts all.have);
   reads = subst (λ ys. Reads bytes (flat_map spell ys) rest) (sym all.behind) all.reads;
 }
 
 pub values_spelled : (asks : List Ask) (values : List ℤ) (bytes rest : List ℕ) → AllAre (IsLong false) asks → AreBytes bytes → each_at (said_at (cast_signed w32)) asks [] bytes ≡ Ok (values, rest)
-    → Spells value_bytes (length asks) values bytes rest
+    → Spells value_bytes (FitsSigned w32) (length asks) values bytes rest
 values_spelled asks values bytes rest good are e =
-    spells_all value_bytes asks values bytes rest
-    (each_reads Any value_bytes (IsLong false) (said_at (cast_signed w32)) (said_adds value_bytes (cast_signed w32) false value_spelled) asks [] values bytes rest good are e)
+    spells_all value_bytes (FitsSigned w32) asks values bytes rest
+    (each_reads (λ ask z. FitsSigned w32 z) value_bytes (IsLong false) (said_at (cast_signed w32)) (said_adds value_bytes (FitsSigned w32) (cast_signed w32) false value_spelled value_fits)
+    asks [] values bytes rest good are e)
 
 pub cells_spelled : (asks : List Ask) (cells : List ℤ) (bytes rest : List ℕ) → AllAre (IsLong true) asks → AreBytes bytes → each_at (said_at (cast_signed w64)) asks [] bytes ≡ Ok (cells, rest)
-    → Spells cell_bytes (length asks) cells bytes rest
+    → Spells cell_bytes (FitsSigned w64) (length asks) cells bytes rest
 cells_spelled asks cells bytes rest good are e =
-    spells_all cell_bytes asks cells bytes rest
-    (each_reads Any cell_bytes (IsLong true) (said_at (cast_signed w64)) (said_adds cell_bytes (cast_signed w64) true cell_spelled) asks [] cells bytes rest good are e)
+    spells_all cell_bytes (FitsSigned w64) asks cells bytes rest
+    (each_reads (λ ask z. FitsSigned w64 z) cell_bytes (IsLong true) (said_at (cast_signed w64)) (said_adds cell_bytes (FitsSigned w64) (cast_signed w64) true cell_spelled cell_fits)
+    asks [] cells bytes rest good are e)
 
 pub all_mapped : {Y F : Type 0} (Good : F → Type 0) (f : Y → F) (ys : List Y) → ((y : Y) → Good (f y)) → AllAre Good (map f ys)
 all_mapped Good f [] good = tt
@@ -213,12 +233,13 @@ flagged_bytes long None = number_bytes 0
 flagged_bytes long (Some n) = number_bytes 1 ++ bytes_as long n
 
 pub flagged_reads : (ask : Ask) (flag : ℕ) (bytes mid rest : List ℕ) (told : Option ℕ) → flag ≤ 1 → Reads bytes (number_bytes flag) mid → optional ask flag mid ≡ Ok (told, rest)
-    → Reads bytes (flagged_bytes ask.long told) rest
+    → Reads bytes (flagged_bytes ask.long told) rest × IfThere (λ n. n < most_as ask.long) told
 flagged_reads ask zero bytes mid rest told few reads e =
     let same : (None, mid) ≡ (told, rest) = ok_is (None, mid) (told, rest) e in
-    subst (λ (p : Option ℕ × List ℕ). Reads bytes (flagged_bytes ask.long p.0) p.1) same reads
+    subst (λ (p : Option ℕ × List ℕ). Reads bytes (flagged_bytes ask.long p.0) p.1 × IfThere (λ n. n < most_as ask.long) p.0) same (reads, tt)
 flagged_reads ask (suc zero) bytes mid rest told few reads e =
     let (n, read, said) = said_ok (field_at ask mid) (λ n. Some n) told rest e in
-    subst (λ o. Reads bytes (flagged_bytes ask.long o) rest) said
-    (reads_then bytes mid rest (number_bytes 1) (bytes_as ask.long n) reads (field_reads ask mid n rest reads.1 read).0)
+    let (behind, small) = field_reads ask mid n rest reads.1 read in
+    subst (λ o. Reads bytes (flagged_bytes ask.long o) rest × IfThere (λ n. n < most_as ask.long) o) said
+    (reads_then bytes mid rest (number_bytes 1) (bytes_as ask.long n) reads behind, small)
 flagged_reads ask (suc (suc flag)) bytes mid rest told few reads e = absurd (omega (arith, few))

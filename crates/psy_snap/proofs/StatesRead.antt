@@ -5,6 +5,7 @@ use Rattle.std.specs.List.{flat_map, starts_with}
 use Rattle.std.proofs.lemmas.Bool.Decides.{Decides-eqb}
 use Rattle.std.proofs.lemmas.Slice.Eq.{starts_is}
 use Rattle.std.proofs.lemmas.List.{length-append, length-drop, length-map}
+use Rattle.std.proofs.lemmas.Option.{none-some}
 use Rattle.psy_dates.specs.declared.opening.AgentOpening.{AgentOpening}
 use Rattle.psy_dates.specs.declared.opening.Opening.{Opening}
 use Rattle.psy_dates.specs.declared.opening.StreamOpening.{StreamOpening}
@@ -277,3 +278,12 @@ module _ (form : Form) where
   read_fault bytes number left is =
       let fits = subst (λ r. Fits (length bytes) (length bytes) r (faults_of form bytes) (date_end (behind_mark bytes))) is (state_fits bytes) in
       (fits.0, decides_all (faults_of form bytes) (date_end (behind_mark bytes)) (record { number = number; place = length bytes - left }) fits.1)
+
+  -- Where there is no fault, a state is read.
+  pub read_well : (bytes : List ℕ) → least_fault (faults_of form bytes) ≡ None → (opening : Opening) × (rest : List ℕ) × (state_at form bytes ≡ Ok (opening, rest))
+  read_well bytes none = by (state_at form bytes) refl
+    where
+      by : (r : Result (Opening × List ℕ) ReadError) → state_at form bytes ≡ r → (opening : Opening) × (rest : List ℕ) × (state_at form bytes ≡ Ok (opening, rest))
+      by (Ok x) is = (x.0, x.1, is)
+      by (Err (errors.Bad number left)) is = absurd (none-some _ (sym none ∙ (read_fault bytes number left is).1))
+      by (Err errors.Memory) is = absurd (subst (λ r. Fits (length bytes) (length bytes) r (faults_of form bytes) (date_end (behind_mark bytes))) is (state_fits bytes))

@@ -192,7 +192,7 @@ module _ (agents : ℕ) where
 
     -- ---- what is told of it
 
-    last_pushed : (messages : List Message) (m : Message) → last_of (messages ++ m ∷ []) ≡ Some m
+    pub last_pushed : (messages : List Message) (m : Message) → last_of (messages ++ m ∷ []) ≡ Some m
     unfolding last_of
     last_pushed messages m =
         ap (λ i. slice_get (messages ++ m ∷ []) i) (omega (arith, length-append messages (m ∷ []))) ∙ pushed messages m
