@@ -34,12 +34,12 @@ use Rattle.psy_history.specs.declared.told.Script.{Script}
 use Rattle.psy_plan.specs.Programs.{IsProgram}
 use Rattle.psy_plan.specs.Supplies.{IsSupply, Supply}
 use Rattle.psy_plan.specs.Supplies as plan
-use Rattle.psy_run.specs.Answer.{answering, building, checking, compiling, drawing, executing, judging, listing, running, serving, supplying, tracing, translating, trying}
+use Rattle.psy_run.specs.Answer.{answering, building, checking, compiling, drawing, executing, judging, listing, resuming, running, saving, serving, supplying, tracing, translating, trying}
 use Rattle.psy_run.specs.Bounds.{IsBounded, KeepsBounds}
 use Rattle.psy_run.specs.Courses.{in_row}
 use Rattle.psy_run.specs.Services.{Service, Ran, Drawn, meaning_of, no_inputs, no_script, text_of}
 use Rattle.psy_script.specs.Inputs.{AreListsOf}
-use Rattle.psy_run.specs.Asked.{Asks, Command, asks_check, asks_graph, asks_make, asks_run, asks_run_with_inputs, asks_run_with_script, asks_trial, asks_build, asks_exec, asks_exec_with_inputs, asks_exec_with_script, asks_audit, asks_audit_with_script, asks_trace, asks_trace_with_inputs, asks_trace_with_script}
+use Rattle.psy_run.specs.Asked.{Asks, Command, asks_check, asks_graph, asks_make, asks_run, asks_run_with_inputs, asks_run_with_script, asks_trial, asks_build, asks_exec, asks_exec_with_inputs, asks_exec_with_script, asks_audit, asks_audit_with_script, asks_trace, asks_trace_with_inputs, asks_trace_with_script, asks_save, asks_save_with_inputs, asks_save_with_script, asks_resume, asks_resume_with_inputs, asks_resume_with_script}
 use Rattle.psy_history.specs.Scripts.{order_of, stalls_of}
 use Rattle.psy_agree.specs.Readable.{IsRead, IsReadBack}
 use Rattle.psy_history.proofs.lemmas.NoInputs.{are_no_inputs}
@@ -165,6 +165,14 @@ module _ (laws : AreLaws) where
   unfolding in_row
   tracing_read files name until inputs script done (unit, compiled, (supply, supplied, (lists, listed, (said, scripted, (paces, paced, (fits, few, same)))))) = subst Reads (sym same) (λ bounds. tt)
 
+  saving_read : (files : Option Files) (name : List ℕ) (date : ℕ) (inputs script : Option (List ℕ)) (done : Service) → (saving files name date inputs script).gives done → Reads done
+  unfolding in_row
+  saving_read files name date inputs script done (unit, compiled, (supply, supplied, (lists, listed, (said, scripted, (paces, paced, (leaves, left, same)))))) = subst Reads (sym same) (λ bounds. tt)
+
+  resuming_read : (files : Option Files) (name state : List ℕ) (until : ℕ) (inputs script : Option (List ℕ)) (done : Service) → (resuming files name state until inputs script).gives done → Reads done
+  unfolding in_row
+  resuming_read files name state until inputs script done (unit, compiled, (supply, supplied, (bytes, read, (opening, restored, (lists, listed, (said, scripted, (paces, paced, same))))))) = subst Reads (sym same) (λ bounds. tt)
+
   serving_read : (words : List (List ℕ)) (files : Option Files) (command : Command) (done : Service) → Asks words command → (serving files command).gives done → Reads done
   serving_read words files _ done (asks_run program date until is asked) gives = running_read files program until None None done asked.most gives
   serving_read words files _ done (asks_run_with_inputs program date inputs until is asked) gives = running_read files program until (Some inputs) None done asked.most gives
@@ -182,6 +190,12 @@ module _ (laws : AreLaws) where
   serving_read words files _ done (asks_trace program date until is asked) gives = tracing_read files program until None None done gives
   serving_read words files _ done (asks_trace_with_inputs program date inputs until is asked) gives = tracing_read files program until (Some inputs) None done gives
   serving_read words files _ done (asks_trace_with_script program date inputs script until is asked) gives = tracing_read files program until (Some inputs) (Some script) done gives
+  serving_read words files _ done (asks_save program word date is asked) gives = saving_read files program date None None done gives
+  serving_read words files _ done (asks_save_with_inputs program word inputs date is asked) gives = saving_read files program date (Some inputs) None done gives
+  serving_read words files _ done (asks_save_with_script program word inputs script date is asked) gives = saving_read files program date (Some inputs) (Some script) done gives
+  serving_read words files _ done (asks_resume program state date until is asked) gives = resuming_read files program state until None None done gives
+  serving_read words files _ done (asks_resume_with_inputs program state date inputs until is asked) gives = resuming_read files program state until (Some inputs) None done gives
+  serving_read words files _ done (asks_resume_with_script program state date inputs script until is asked) gives = resuming_read files program state until (Some inputs) (Some script) done gives
 
   -- Whatever words ask for is read back.
   pub answer_read : (words : List (List ℕ)) (files : Option Files) (done : Service) → (answering words files).gives done → IsReadBack done

@@ -13,7 +13,7 @@ pub record IsRead (first : Stand) (text : List ℕ) : Type 0 where
   pub in_form : (line : ℕ) → BreaksAt first text line → ⊥
 
 -- What a run, a trial and `graph` write is read: the first two as a run, of which the trial writes the summary alone. What `check`, `make`,
--- `build`, `audit` and `trace` write isn't for reading, and of a run of an image nothing is said here.
+-- `build`, `audit`, `trace` and `save` write isn't for reading, and of runs of an image or from a state nothing is said here.
 abbrev pub IsReadBack : Service → Type 0
 IsReadBack (Ran unit nexts sizes until inputs script) = IsRead run_begins (text_of (Ran unit nexts sizes until inputs script))
 IsReadBack (Tried unit nexts sizes until) = IsRead run_begins (text_of (Tried unit nexts sizes until))

@@ -1,5 +1,5 @@
 -- What an agent carries into its next action: as many cells as its code has, and a copy of each variable that it owns, with the value committed last.
-use Rattle.std.proofs.Common.{◌≡◌, ℕ, suc, ◌+◌, ◌<◌, ◌≤◌, Bool, true, false, not, nat_lt, nat_le, if◌then◌else◌, List, [], ◌∷◌, map, length, slice_get, Option, Some, None, ℤ, refl, sym, ap, subst, ◌∙◌, inl, inr, arith}
+use Rattle.std.proofs.Common.{◌≡◌, ℕ, suc, ◌+◌, ◌<◌, Bool, true, false, nat_lt, nat_le, if◌then◌else◌, List, [], ◌∷◌, length, Option, Some, ℤ, refl, sym, ap, subst, ◌∙◌, inl, inr, arith}
 use Rattle.std.proofs.lemmas.Bool.{cond-false, cond-true, le-leb, lt-leb}
 use Rattle.psy_budget.specs.declared.charge.Stall.{Stall}
 use Rattle.psy_code.specs.declared.code.AgentCode.{AgentCode}
@@ -7,7 +7,7 @@ use Rattle.psy_code.specs.declared.code.Code.{Code}
 use Rattle.psy_code.specs.Execution.{Run, RunState, Running, RanTo, TrappedBy, NoRun, run_code}
 use Rattle.psy_code.specs.Lasting.{StandsAt}
 use Rattle.psy_code.specs.Views.{View}
-use Rattle.psy_history.specs.Actions.{Action, History, Next, Opening, System, Verdict, Done, Trapped, Overran, charge_of, next_by, next_of, timing, variable_of, verdict_by, verdict_of}
+use Rattle.psy_history.specs.Actions.{Action, History, Next, Opening, System, Verdict, Done, Trapped, Overran, charge_of, next_by, next_of, timing, variable_of, verdict_by}
 use Rattle.psy_history.specs.Executors.{Acted, Carried, Fate, Reached, Unfinished, acted_as, carried_by, copy_in, machine_at}
 use Rattle.psy_history.specs.Executors as fate
 use Rattle.psy_history.specs.History.{action_of, history}
@@ -24,7 +24,7 @@ use Rattle.psy_dates.specs.Plans.{IsPlan, opened_of}
 use Rattle.psy_dates.proofs.lemmas.Begun.{AreBegun}
 use Rattle.psy_kernel.specs.Freezing.{BeginWithFirst}
 use Rattle.psy_kernel.proofs.LeftCopies.{names_of}
-use Rattle.psy_kernel.proofs.UnderWay.{IsAgentAt, Starts, action, due_later, grows, regular}
+use Rattle.psy_kernel.proofs.UnderWay.{IsAgentAt, action, due_later, grows, regular}
 
 -- A run that ends stands at its point, with as many cells and with copies of the same variables.
 abbrev pub EndStanding : Type 0

@@ -1,18 +1,19 @@
 -- What a run leaves of an agent at a quiet date: where it waits, is silent, or starts an action there.
-use Rattle.std.proofs.Common.{◌≡◌, ◌⊎◌, ℕ, suc, ◌+◌, ◌*◌, ◌<◌, ◌≤◌, Bool, true, false, nat_le, if◌then◌else◌, List, [], ◌∷◌, map, length, filter, get_or, slice_get, pos, Option, Some, None, ℤ, refl, sym, ap, subst, ◌∙◌, inl, inr, arith}
-use Rattle.std.proofs.lemmas.Bool.{cond-false, lt-leb, true≢false}
+use Rattle.std.proofs.Common.{◌≡◌, ℕ, suc, ◌<◌, true, false, nat_le, nat_lt, if◌then◌else◌, List, [], ◌∷◌, map, length, get_or, slice_get, pos, Option, Some, None, ℤ, refl, sym, ap, subst, ◌∙◌, inl, inr, arith}
+use Rattle.std.proofs.lemmas.Bool.{cond-false, cond-true, le-ltb, lt-leb, lt-ltb, true≢false}
 use Rattle.std.proofs.lemmas.Option.{get_or_from_slice_get, slice_get_within}
 use Rattle.psy_budget.specs.declared.charge.Stall.{Stall}
 use Rattle.psy_code.specs.declared.code.AgentCode.{AgentCode}
 use Rattle.psy_code.specs.declared.code.CopyInit.{CopyInit}
-use Rattle.psy_code.specs.Execution.{Copy, Machine, RunState, Running, copy_of, run_code}
+use Rattle.psy_code.specs.Execution.{Copy, Machine, RunState, copy_of}
 use Rattle.psy_tree.specs.declared.unit.VarDecl.{VarDecl}
 use Rattle.psy_tree.specs.Parts.{no_variable, variable_at}
-use Rattle.psy_history.specs.Actions.{Action, Next, Opening, System, Verdict, Done, Trapped, Overran, first_action, is_silent, next_by, next_of, rests, variable_of}
-use Rattle.psy_history.specs.Executors.{Carried, by_code, copy_in}
+use Rattle.psy_history.specs.Actions.{Action, Next, Opening, System, Verdict, Done, Trapped, Overran, is_silent, next_by, next_of, rests, variable_of}
+use Rattle.psy_history.specs.Executors.{Carried, copy_in}
 use Rattle.psy_history.specs.History.{history}
 use Rattle.psy_history.specs.Openings.{IsSound}
 use Rattle.psy_history.specs.Regular.{begun_by}
+use Rattle.psy_history.specs.Resuming.{committed_at}
 use Rattle.psy_history.specs.Schedule.{Turn, is_pending, units}
 use Rattle.psy_history.specs.Summary.{due_by}
 use Rattle.psy_history.specs.Visible.{committed_in}
@@ -25,17 +26,17 @@ use Rattle.psy_dates.specs.Beginnings.{carried_with, committed_by, is_silent_by,
 use Rattle.psy_dates.specs.declared.opening.Begun.{Begun}
 use Rattle.psy_dates.specs.declared.opening.NextAction.{NextAction}
 use Rattle.psy_dates.specs.declared.plan.Plan.{Plan}
-use Rattle.psy_dates.specs.declared.seat.Phase.TheVariants as phase
 use Rattle.psy_dates.specs.declared.seat.Seat.{Seat}
 use Rattle.psy_dates.specs.Plans.{IsPlan, opened_of}
+use Rattle.psy_dates.proofs.lemmas.OwnCopies.{own_owned}
 use Rattle.psy_kernel.specs.declared.engine.Runner.{Runner}
 use Rattle.psy_kernel.specs.Freezing.{BeginWithFirst, action_left, begun_left, copies_left}
 use Rattle.psy_kernel.specs.Freezing as left
 use Rattle.psy_kernel.specs.Standing.{AgentStands, IsRunning, MachineIn, MachineStands, charge_after}
 use Rattle.psy_kernel.specs.Starting.{is_acting}
 use Rattle.psy_kernel.proofs.CarriedOn.{Carries, committed_before, first_value, next_value}
-use Rattle.psy_kernel.proofs.LeftCopies.{copy_found, copy_owned, names_in, names_of, owned_copy_in, valued, valued_are, valued_at, with_values_is}
-use Rattle.psy_kernel.proofs.UnderWay.{Begins, IsAgentAt, Rests, Stands, Starts, Waits, action, due_later, grows, none_had, pending}
+use Rattle.psy_kernel.proofs.LeftCopies.{copy_found, copy_owned, owned_copy_in, same_map, valued, valued_are, valued_at, with_values_is}
+use Rattle.psy_kernel.proofs.UnderWay.{Begins, IsAgentAt, Rests, Stands, Waits, action, due_later, first_late, grows, none_had, pending}
 
 module _ (plan : Plan) (is : IsPlan plan) (opening : Opening) (inputs : List (List ℤ)) (stalls : ℕ → List Stall) (sound : IsSound (opened_of plan opening inputs stalls) (Listed is.ways) plan.code)
     (date agent : ℕ) (turns : List (Option Turn)) (at : IsAgentAt (opened_of plan opening inputs stalls) date agent turns) where
@@ -136,6 +137,57 @@ module _ (plan : Plan) (is : IsPlan plan) (opening : Opening) (inputs : List (Li
         | inr (inl r) ↦ ap is_silent_by (rests_begun r) ∙ sym r.quiet
         | inr (inr b) ↦ ap is_silent_by (begins_begun b) ∙ sym (next_rests b.next old b.starts.is_next)
       ]
+
+      -- ---- the one state of it
+
+      module _ (less : agent < length plan.unit.agents)
+          (values : (variable : ℕ) → variable < length plan.unit.variables → (variable_of s variable).owner ≡ Some agent → get_or committed variable (pos 0) ≡ committed_in s variable date now) where
+        -- the values that the history committed by the date
+        abbrev copies_then : List ℤ
+        copies_then = map (λ (c : CopyInit). committed_at s date c.variable (variable_of s c.variable).owner) its.copies
+
+        copies_same : copies ≡ copies_then
+        copies_same = same_map (λ (c : CopyInit). get_or committed c.variable (pos 0)) (λ (c : CopyInit). committed_at s date c.variable (variable_of s c.variable).owner) its.copies (λ place c there.
+            let variables = plan.unit.variables in
+            let own = own_owned agent variables its.copies (is.fits.parts.each agent less).copies place c there in
+            let owned : (variable_of s c.variable).owner ≡ Some agent =
+            ap (λ (v : VarDecl). v.owner) (get_or_from_slice_get variables c.variable own.0 no_variable own.1) ∙ own.2 in
+            values c.variable (slice_get_within variables c.variable own.0 own.1) owned
+            ∙ committed_before plan is opening inputs stalls sound date agent c.variable owned turns at
+            ∙ sym (ap (committed_at s date c.variable) owned))
+
+        abbrev then_with : Option NextAction → Begun
+        then_with started = record { copies = copies_then; action = started }
+
+        some_same : (started : Option NextAction) → some started ≡ then_with started
+        some_same started = ap (λ cs. record { copies = cs; action = started }) copies_same
+
+        acting_same : (b : Begins s date agent turns at seat) → cells ≡ b.next.carried.cells → acting ≡ left.action_of b.next
+        acting_same b same = λ i. record { number = b.number i; point = b.point i; cells = same i }
+
+        waits_with : (n : Next) → s.opening.starts agent ≡ Some n → now ≡ [] → left.begun_with (suc date) copies_then (Some n) ≡ None
+        waits_with n first none =
+            cond-false (nat_lt n.start (suc date)) (Some (then_with (Some (left.action_of n)))) None (le-ltb n.start (suc date) (first_late s agent n first (suc date) none))
+
+        begins_with : (n : Next) → n.start ≡ date → left.begun_with (suc date) copies_then (Some n) ≡ Some (then_with (Some (left.action_of n)))
+        begins_with n start =
+            cond-true (nat_lt n.start (suc date)) (Some (then_with (Some (left.action_of n)))) None (lt-ltb n.start (suc date) (omega (arith, start)))
+
+        -- The one state of what the history leaves has the same of it.
+        pub begun_same : ((b : Begins s date agent turns at seat) → cells ≡ b.next.carried.cells) → Stood
+            → begun ≡ left.begun_of (suc date) copies_then (rests (opening.silent agent) date old) (next_of s agent old)
+        begun_same same stood = elim stood [
+          | inl w ↦ (
+              let first = at.opens.waits agent less w.talks w.none_now in
+              waits_begun w
+              ∙ sym (ap (λ b. left.begun_of (suc date) copies_then b (next_of s agent old)) (ap (rests (opening.silent agent) date) w.none_old ∙ w.talks)
+              ∙ ap (left.begun_with (suc date) copies_then) (ap (next_of s agent) w.none_old ∙ first) ∙ waits_with _ first w.none_now))
+          | inr (inl r) ↦ rests_begun r ∙ ap Some (some_same None) ∙ sym (ap (λ b. left.begun_of (suc date) copies_then b (next_of s agent old)) r.quiet)
+          | inr (inr b) ↦
+              begins_begun b ∙ ap Some (some_same (Some acting)) ∙ ap (λ a. Some (then_with (Some a))) (acting_same b (same b))
+              ∙ sym (ap (λ b. left.begun_of (suc date) copies_then b (next_of s agent old)) (next_rests b.next old b.starts.is_next)
+              ∙ ap (left.begun_with (suc date) copies_then) b.starts.is_next ∙ begins_with b.next b.starts.at_date)
+        ]
 
       -- ---- its variables
 

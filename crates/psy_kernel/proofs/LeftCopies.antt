@@ -1,5 +1,5 @@
 -- Working copies of the variables that an agent owns, by the values of these.
-use Rattle.std.proofs.Common.{◌≡◌, ℕ, zero, suc, ◌+◌, ◌<◌, ◌≤◌, ◌==◌, Bool, true, false, if◌then◌else◌, List, [], ◌∷◌, ◌++◌, map, length, slice_get, Option, Some, None, ℤ, refl, sym, ap, subst, ◌∙◌, inl, inr, arith}
+use Rattle.std.proofs.Common.{◌≡◌, ℕ, zero, suc, ◌+◌, ◌≤◌, ◌==◌, Bool, true, false, if◌then◌else◌, List, [], ◌∷◌, ◌++◌, map, slice_get, Option, Some, None, ℤ, refl, sym, ap, ◌∙◌, inl, inr, arith}
 use Rattle.std.proofs.lemmas.Bool.{cases_Bool, cond-false, cond-true, eq-eqb, eqb-true, ne_eqb}
 use Rattle.psy_code.specs.declared.code.CopyInit.{CopyInit}
 use Rattle.psy_code.specs.Execution.{Copy, copy_of}
@@ -16,6 +16,11 @@ names_of copies = map (λ (c : Copy). c.variable) copies
 -- The variables of what copies begin with
 abbrev pub names_in : List CopyInit → List ℕ
 names_in own = map (λ (c : CopyInit). c.variable) own
+
+-- What two functions make of a list is the same where they agree on its items.
+pub same_map : {X Y : Type 0} (f g : X → Y) (xs : List X) → ((place : ℕ) (x : X) → slice_get xs place ≡ Some x → f x ≡ g x) → map f xs ≡ map g xs
+same_map f g [] same = refl
+same_map f g (x ∷ xs) same = ap (λ y. y ∷ map f xs) (same 0 x refl) ∙ ap (λ ys. g x ∷ ys) (same_map f g xs (λ place. same (suc place)))
 
 -- The same copies with the values that their variables have
 abbrev pub valued : (ℕ → ℤ) → List Copy → List Copy

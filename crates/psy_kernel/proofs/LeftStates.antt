@@ -1,13 +1,14 @@
 -- What is left of a run at a quiet date is the state that its history leaves there.
-use Rattle.std.proofs.Common.{◌≡◌, ◌⊎◌, ℕ, zero, suc, ◌+◌, ◌-◌, ◌*◌, ◌<◌, ◌≤◌, Bool, true, false, if◌then◌else◌, List, [], ◌∷◌, ◌++◌, map, length, get_or, slice_get, pos, Option, Some, None, ℤ, refl, sym, ap, subst, ◌∙◌, inl, inr, arith}
+use Rattle.std.proofs.Common.{◌≡◌, ℕ, suc, ◌+◌, ◌*◌, ◌<◌, ◌≤◌, Bool, true, false, if◌then◌else◌, List, [], ◌∷◌, ◌++◌, map, length, get_or, slice_get, pos, Option, Some, None, ℤ, refl, sym, ap, subst, ◌∙◌, inl, inr, arith}
 use Rattle.std.specs.List.{All, Contains, range_with_len}
 use Rattle.std.proofs.Math.Numerals.{add-one}
 use Rattle.std.proofs.Math.Path.{fun_ext}
 use Rattle.std.proofs.lemmas.Bool.{cases_lt}
 use Rattle.std.proofs.lemmas.List.{get_or_past, length-map}
 use Rattle.std.proofs.lemmas.List.Elements.{All-get_or, All-head, All-nil, All-cons, All-tail}
-use Rattle.std.proofs.lemmas.List.FromFn.{get_or-map-range_with_len, length-map-range_with_len}
+use Rattle.std.proofs.lemmas.List.FromFn.{fill_by_all, get_or-map-range_with_len, length-map-range_with_len}
 use Rattle.std.proofs.lemmas.Option.{slice_get-get_or, slice_get_past, slice_get_within}
+use Rattle.psy_budget.specs.declared.charge.Stall.{Stall}
 use Rattle.psy_code.specs.declared.code.AgentCode.{AgentCode}
 use Rattle.psy_code.specs.declared.code.CopyInit.{CopyInit}
 use Rattle.psy_code.specs.Views.{found_in}
@@ -19,7 +20,7 @@ use Rattle.psy_history.specs.Actions.{Action, Next, Opening, System, next_of, re
 use Rattle.psy_history.specs.History.{history}
 use Rattle.psy_history.specs.Openings.{IsSound}
 use Rattle.psy_history.specs.Queues.{queue_of}
-use Rattle.psy_history.specs.Regular.{Runs, WereStarted}
+use Rattle.psy_history.specs.Regular.{IsLawful, Runs, WereStarted}
 use Rattle.psy_history.specs.Resuming.{IsQuiet, committed_at, opening_at}
 use Rattle.psy_history.specs.Rings.{ring_of}
 use Rattle.psy_history.specs.Schedule.{Turn}
@@ -43,12 +44,13 @@ use Rattle.psy_dates.specs.declared.plan.Plan.{Plan}
 use Rattle.psy_dates.specs.declared.seat.Phase.{Phase}
 use Rattle.psy_dates.specs.declared.seat.Phase.TheVariants as phase
 use Rattle.psy_dates.specs.declared.seat.Seat.{Seat}
+use Rattle.psy_dates.specs.Plans.{IsPlan, opened_of}
 use Rattle.psy_dates.specs.Standing as dates
 use Rattle.psy_dates.proofs.lemmas.OwnCopies.{own_owned}
 use Rattle.psy_kernel.specs.Acting.{IsOfCode}
 use Rattle.psy_kernel.specs.declared.engine.Engine.TheInside.{Inside}
 use Rattle.psy_kernel.specs.declared.engine.Runner.{Runner}
-use Rattle.psy_kernel.specs.Freezing.{BeginWithFirst, MayLeave, action_left, agent_by, agent_left, begun_by, begun_left, copies_left, left_on, stream_left, variable_left}
+use Rattle.psy_kernel.specs.Freezing.{BeginWithFirst, MayLeave, action_left, agent_by, agent_left, agent_of, begun_by, begun_left, copies_left, left_on, state_by, stream_by, stream_left, variable_by, variable_left}
 use Rattle.psy_kernel.specs.Resuming.{HasShapeOf}
 use Rattle.psy_kernel.specs.Standing.{AgentStands, HasPartsIn, state_of, waits_on}
 use Rattle.psy_kernel.specs.Starting.{is_acting, seat_at}
@@ -56,11 +58,11 @@ use Rattle.psy_kernel.proofs.CarriedOn.{Carries, EndStanding, next_carries}
 use Rattle.psy_kernel.proofs.DatesDue.{LeavesReach, SameReach}
 use Rattle.psy_kernel.proofs.Engines.{opening_in, order_in, run_in, turns_in}
 use Rattle.psy_kernel.proofs.GetsCycle.{told}
-use Rattle.psy_kernel.proofs.LeftAgents.{begins_cells, cells_fit, committed_left, due_old, silent_left, starts_left}
+use Rattle.psy_kernel.proofs.LeftAgents.{begins_cells, begun_same, cells_fit, committed_left, due_old, silent_left, starts_left}
 use Rattle.psy_kernel.proofs.NoneLeft.{never_held, queue_none, reach_none}
 use Rattle.psy_kernel.proofs.RunsDone.{IsDone, agent_at, before, last, none_unknown, quantum_some, seat_there, shares, sits, turns_all}
 use Rattle.psy_kernel.proofs.SummaryLines.{count_told, held_told, least_told, reach_told}
-use Rattle.psy_kernel.proofs.UnderWay.{Begins, Stands, stands}
+use Rattle.psy_kernel.proofs.UnderWay.{Stands, stands}
 
 -- ---- where a run begins
 
@@ -100,20 +102,54 @@ module _ (plan : Plan) where
   none_most None parts stream past = refl
   none_most (Some state) parts stream past = ap (λ (q : StreamOpening). q.held) (none_in_stream state stream (omega (arith, past, parts.streams)))
 
+-- ---- a plan that fits
+
+-- A variable that there isn't has no owner,
+pub no_owner : (plan : Plan) (variable agent : ℕ) → length plan.unit.variables ≤ variable → (variable_at plan.unit variable).owner ≡ Some agent → ⊥
+no_owner plan variable agent past owned =
+    (let none : None ≡ Some agent = sym (ap (λ (v : VarDecl). v.owner) (get_or_past plan.unit.variables variable no_variable past)) ∙ owned in cc)
+
+module _ (plan : Plan) (is : IsPlan plan) where
+  -- and that of one that there is is known.
+  pub owner_known : (variable agent : ℕ) → variable < length plan.unit.variables → (variable_at plan.unit variable).owner ≡ Some agent → agent < length plan.unit.agents
+  owner_known variable agent less owned =
+      let bare : IsBareVariable plan.unit (variable_at plan.unit variable) = All-get_or (IsBareVariable plan.unit) plan.unit.variables variable no_variable less is.fits.bare.variables in
+      subst (OwnedWithin (length plan.unit.agents)) owned bare.owner
+
+  -- Each action is what its code came to.
+  module _ (opening : Opening) (inputs : List (List ℤ)) (stalls : ℕ → List Stall) where
+    abbrev its_runs : Action → Type 0
+    its_runs = Runs (opened_of plan opening inputs stalls) (Listed is.ways) plan.code
+
+    abbrev of_its_code : Action → Type 0
+    of_its_code = IsOfCode (opened_of plan opening inputs stalls) plan.code
+
+    of_code_by : (dates agent : ℕ) (rs : List Action) → WereStarted (opened_of plan opening inputs stalls) dates agent rs → All its_runs rs → All of_its_code rs
+    of_code_by dates agent [] w all = All-nil of_its_code
+    of_code_by dates agent (r ∷ more) w all =
+        let t = told plan opening inputs stalls is dates agent more r w.0 in
+        All-cons of_its_code r more
+        (record { deeds = t.0; after = t.1; charge = t.2; verdict = t.3; ways = Listed is.ways; runs = All-head its_runs r more all })
+        (of_code_by dates agent more w.1 (All-tail its_runs r more all))
+
+    pub all_of_code : IsLawful (opened_of plan opening inputs stalls) → ((dates agent : ℕ) → All its_runs (history (opened_of plan opening inputs stalls) dates agent))
+        → (dates agent : ℕ) → All of_its_code (history (opened_of plan opening inputs stalls) dates agent)
+    all_of_code lawful runs dates agent = of_code_by dates agent (history (opened_of plan opening inputs stalls) dates agent) (lawful.actions dates agent).were_started (runs dates agent)
+
 -- ---- lists of what is left
 
 module _ {X : Type 0} (f : ℕ → X) (n i : ℕ) where
-  made_at : (d : X) → i < n → get_or (map f (range_with_len 0 n)) i d ≡ f i
+  pub made_at : (d : X) → i < n → get_or (map f (range_with_len 0 n)) i d ≡ f i
   made_at d less = get_or-map-range_with_len f 0 n i i d less (omega arith)
 
-  made_past : (d : X) → n ≤ i → get_or (map f (range_with_len 0 n)) i d ≡ d
+  pub made_past : (d : X) → n ≤ i → get_or (map f (range_with_len 0 n)) i d ≡ d
   made_past d past = get_or_past (map f (range_with_len 0 n)) i d (omega (arith, past, length-map-range_with_len f 0 n))
 
-  made_there : i < n → slice_get (map f (range_with_len 0 n)) i ≡ Some (f i)
+  pub made_there : i < n → slice_get (map f (range_with_len 0 n)) i ≡ Some (f i)
   made_there less =
       slice_get-get_or (map f (range_with_len 0 n)) i (f i) (omega (arith, less, length-map-range_with_len f 0 n)) ∙ ap Some (made_at (f i) less)
 
-  made_none : n ≤ i → slice_get (map f (range_with_len 0 n)) i ≡ None
+  pub made_none : n ≤ i → slice_get (map f (range_with_len 0 n)) i ≡ None
   made_none past = slice_get_past (map f (range_with_len 0 n)) i (omega (arith, past, length-map-range_with_len f 0 n))
 
 some_begun : (p : Phase) (x y : Begun) → begun_by p x ≡ Some y → x ≡ y
@@ -239,16 +275,8 @@ module _ (k : Inside) where
 
     -- each action is what its code came to
     module _ (runs : (dates agent : ℕ) → All (Runs s (Listed at.stands.plan.ways) k.plan.code) (history s dates agent)) where
-      of_code_by : (dates agent : ℕ) (rs : List Action) → WereStarted s dates agent rs → All (Runs s (Listed at.stands.plan.ways) k.plan.code) rs → All (IsOfCode s k.plan.code) rs
-      of_code_by dates agent [] w all = All-nil (IsOfCode s k.plan.code)
-      of_code_by dates agent (r ∷ more) w all =
-          let t = told k.plan (opening_in k) k.shared.inputs.lists (stalls_of k.script) at.stands.plan dates agent more r w.0 in
-          All-cons (IsOfCode s k.plan.code) r more
-          (record { deeds = t.0; after = t.1; charge = t.2; verdict = t.3; ways = Listed at.stands.plan.ways; runs = All-head (Runs s (Listed at.stands.plan.ways) k.plan.code) r more all })
-          (of_code_by dates agent more w.1 (All-tail (Runs s (Listed at.stands.plan.ways) k.plan.code) r more all))
-
       of_code : (dates agent : ℕ) → All (IsOfCode s k.plan.code) (history s dates agent)
-      of_code dates agent = of_code_by dates agent (history s dates agent) (at.lawful.actions dates agent).were_started (runs dates agent)
+      of_code = all_of_code k.plan at.stands.plan (opening_in k) k.shared.inputs.lists (stalls_of k.script) at.lawful runs
 
       reach_is : LeavesReach → SameReach → (variable : ℕ) → (variable_in state_left variable).reach ≡ reach s turns (history s until) variable
       reach_is leaves same variable = elim (cases_lt variable (length k.shared.rings.items)) [
@@ -314,15 +342,6 @@ module _ (k : Inside) where
           fit acts =
               cells_fit k.plan at.stands.plan (opening_in k) k.shared.inputs.lists (stalls_of k.script) sound until agent (turns agent) (agent_at k at agent) seat until runner
               (waits_on k.plan.unit k.servers.items agent) runs_so carry (stood quiet) acts
-
-          own_known : All (λ (c : CopyInit). c.variable < length committed) (its agent).copies
-          own_known = λ place d within.
-              let c = get_or (its agent).copies place d in
-              let own = own_owned agent k.plan.unit.variables (its agent).copies (at.stands.plan.fits.parts.each agent less).copies place c (slice_get-get_or (its agent).copies place d within) in
-              omega (arith, slice_get_within k.plan.unit.variables c.variable own.0 own.1, (shares k at).valued)
-
-          may_leave : MayLeave (its agent) committed seat runner
-          may_leave = record { copies = own_known; cells = fit }
 
           copies_fit : (b : Begun) → begun ≡ Some b → length b.copies ≡ length (its agent).copies
           copies_fit b e =
@@ -420,19 +439,11 @@ module _ (k : Inside) where
 
     -- ---- what is committed, by variable
 
-    no_owner : (variable agent : ℕ) → length k.plan.unit.variables ≤ variable → (variable_of s variable).owner ≡ Some agent → ⊥
-    no_owner variable agent past owned = (let none : None ≡ Some agent = sym (ap (λ (v : VarDecl). v.owner) (get_or_past k.plan.unit.variables variable no_variable past)) ∙ owned in cc)
-
-    owner_known : (variable agent : ℕ) → variable < length k.plan.unit.variables → (variable_of s variable).owner ≡ Some agent → agent < length k.plan.unit.agents
-    owner_known variable agent less owned =
-        let bare : IsBareVariable k.plan.unit (variable_of s variable) = All-get_or (IsBareVariable k.plan.unit) k.plan.unit.variables variable no_variable less at.stands.plan.fits.bare.variables in
-        subst (OwnedWithin (length k.plan.unit.agents)) owned bare.owner
-
     committed_by_owner : IsQuiet s until → BeginWithFirst k.plan → (variable : ℕ) (owner : Option ℕ) → (variable_of s variable).owner ≡ owner → committed_of k.plan state_left variable owner ≡ committed_at s until variable owner
     committed_by_owner quiet first variable None e = sym (sound.inputs variable e)
     committed_by_owner quiet first variable (Some agent) e = elim (cases_lt variable (length k.plan.unit.variables)) [
-      | inl less ↦ committed_own agent quiet first (owner_known variable agent less e) variable (variable_of s variable) (slice_get-get_or k.plan.unit.variables variable no_variable less) e
-      | inr past ↦ absurd (no_owner variable agent past e)
+      | inl less ↦ committed_own agent quiet first (owner_known k.plan at.stands.plan variable agent less e) variable (variable_of s variable) (slice_get-get_or k.plan.unit.variables variable no_variable less) e
+      | inr past ↦ absurd (no_owner k.plan variable agent past e)
     ]
 
     -- ---- all of it
@@ -458,12 +469,16 @@ module _ (k : Inside) where
       ];
     }
 
-    -- its agents may leave so,
-    pub all_may : EndStanding → IsQuiet s until → (agent : ℕ) (runner : Runner) → slice_get k.runners.items agent ≡ Some runner → MayLeave (agent_code_at k.plan.code agent) committed (seat_at seats agent) runner
-    all_may ended quiet agent runner there = may_leave agent runner there ended quiet
+    -- its agents' working copies are of variables that there are,
+    pub all_may : (agent : ℕ) → agent < length k.runners.items → MayLeave (agent_code_at k.plan.code agent) committed
+    all_may agent less = λ place d within.
+        let known : agent < length k.plan.unit.agents = omega (arith, less, at.stands.run) in
+        let c = get_or (its agent).copies place d in
+        let own = own_owned agent k.plan.unit.variables (its agent).copies (at.stands.plan.fits.parts.each agent known).copies place c (slice_get-get_or (its agent).copies place d within) in
+        omega (arith, slice_get_within k.plan.unit.variables c.variable own.0 own.1, (shares k at).valued)
 
-    -- and what it stands for is what the history leaves.
-    module _ (ended : EndStanding) (quiet : IsQuiet s until) (first : BeginWithFirst k.plan)
+    -- it is the one state of what the history leaves, and what it stands for is just that.
+    module _ (ended : EndStanding) (quiet : IsQuiet s until)
         (sends : (dates agent : ℕ) → All (λ (r : Action). All (IsSentBy (Listed at.stands.plan.ways) s.unit) r.deeds.sends) (history s dates agent))
         (runs : (dates agent : ℕ) → All (Runs s (Listed at.stands.plan.ways) k.plan.code) (history s dates agent)) (leaves : LeavesReach) (same : SameReach)
         (due : (other : ℕ) (r : Action) → IsSupplied s (order_in k) until → Contains (history s until other) r → r.deadline ≤ until → IsFinished s (order_in k) (until * s.unit.quantum) r) where
@@ -473,14 +488,14 @@ module _ (k : Inside) where
       abbrev left : Opening
       left = opening_at s k.plan.sizes.rings turns until
 
-      starts_same : that.starts ≡ left.starts
-      starts_same = fun_ext (λ agent. starts_is agent ended quiet first)
+      starts_same : BeginWithFirst k.plan → that.starts ≡ left.starts
+      starts_same first = fun_ext (λ agent. starts_is agent ended quiet first)
 
       silent_same : that.silent ≡ left.silent
       silent_same = fun_ext (λ agent. silent_is agent quiet)
 
-      committed_same : that.committed ≡ left.committed
-      committed_same = fun_ext (λ variable. committed_by_owner quiet first variable (variable_of s variable).owner refl)
+      committed_same : BeginWithFirst k.plan → that.committed ≡ left.committed
+      committed_same first = fun_ext (λ variable. committed_by_owner quiet first variable (variable_of s variable).owner refl)
 
       published_same : that.published ≡ left.published
       published_same = fun_ext published_is
@@ -500,12 +515,44 @@ module _ (k : Inside) where
       most_same : that.most ≡ left.most
       most_same = fun_ext (most_is sends)
 
-      pub opened_left : behind k.plan state_left ≡ left_on (state_of k)
-      opened_left = λ i. record {
+      -- ---- the one state of it
+
+      abbrev one : State
+      one = state_by k.plan left
+
+      agent_same : (agent : ℕ) → agent < length k.plan.unit.agents → agent_in state_left agent ≡ agent_of k.plan left agent
+      agent_same agent less =
+          let (runner, there) = some_runner agent less in
+          let cells = runner.machine.machine.home.cells in
+          let begun = begun_same k.plan at.stands.plan (opening_in k) k.shared.inputs.lists (stalls_of k.script) sound until agent (turns agent) (agent_at k at agent) (seat agent) committed cells less (values agent)
+          (begins_cells k.plan at.stands.plan (opening_in k) k.shared.inputs.lists (stalls_of k.script) sound until agent (turns agent) (agent_at k at agent) (seat agent) until runner
+          (waits_on k.plan.unit k.servers.items agent) (runs_so agent runner there)) (stood agent runner there quiet) in
+          let its_count = count_left agent runner there due in
+          let its_slack = slack_left agent runner there due in
+          known_is agent runner there ∙ (λ i. record { begun = begun i; count = its_count i; slack = its_slack i })
+
+      variable_same : (variable : ℕ) → variable_in state_left variable ≡ variable_by left variable
+      variable_same variable = (let values = published_is variable in let reached = reach_is runs leaves same variable in λ i. record { values = values i; reach = reached i })
+
+      stream_same : (stream : ℕ) → stream_in state_left stream ≡ stream_by left stream
+      stream_same stream = (let most = most_is sends stream in let messages = messages_is sends stream in λ i. record { held = most i; messages = messages i })
+
+      pub state_same : state_left ≡ state_by k.plan (left_on (state_of k))
+      state_same =
+          let agents = fill_by_all (agent_of k.plan left) state_left.agents (length k.plan.unit.agents) (record { begun = None; count = 0; slack = None })
+          (length-map-range_with_len by_agent 0 (length k.runners.items) ∙ at.stands.run) agent_same in
+          let variables = fill_by_all (variable_by left) state_left.variables (length k.plan.unit.variables) (record { values = []; reach = None })
+          (length-map-range_with_len by_variable 0 (length k.shared.rings.items) ∙ (shares k at).ringed) (λ variable less. variable_same variable) in
+          let streams = fill_by_all (stream_by left) state_left.streams (length k.plan.unit.streams) (record { held = 0; messages = [] })
+          (length-map-range_with_len by_stream 0 (length k.shared.queues.items) ∙ (shares k at).queued) (λ stream less. stream_same stream) in
+          sym (state_read one.date one.agents one.variables one.streams (before k at) (sym agents) (sym variables) (sym streams))
+
+      pub opened_left : BeginWithFirst k.plan → behind k.plan state_left ≡ left_on (state_of k)
+      opened_left first = λ i. record {
         dates = add-one until i;
-        starts = starts_same i;
+        starts = starts_same first i;
         silent = silent_same i;
-        committed = committed_same i;
+        committed = committed_same first i;
         published = published_same i;
         messages = messages_same i;
         count = count_same i;

@@ -72,6 +72,7 @@ mod ShownMessages
 mod Skipped
 mod SliceEnds
 mod Sliced
+mod SomeSeats
 mod Stages
 mod Started
 mod StartsNamed
@@ -81,6 +82,7 @@ mod StreamsTold
 mod Stretched
 mod SummaryLines
 mod Supplied
+mod TakenUp
 mod Ticks
 mod ToldPlaces
 mod ToldStreams

@@ -1,10 +1,10 @@
 -- Streams and variables that there aren't: none holds a message, and at none is looked.
-use Rattle.std.proofs.Common.{◌≡◌, ℕ, zero, suc, ◌+◌, ◌<◌, ◌≤◌, ◌==◌, true, false, max, if◌then◌else◌, List, [], ◌∷◌, ◌++◌, map, length, filter, slice_get, Option, Some, None, refl, sym, ap, subst, ◌∙◌, arith}
+use Rattle.std.proofs.Common.{◌≡◌, ℕ, zero, suc, ◌+◌, ◌<◌, ◌≤◌, ◌==◌, false, max, List, [], ◌∷◌, ◌++◌, map, length, filter, Option, Some, None, refl, sym, ap, subst, ◌∙◌, arith}
 use Rattle.std.specs.Prelude.{⊤}
 use Rattle.std.specs.List.{All, flat_map, range_with_len}
 use Rattle.std.proofs.lemmas.Bool.{cond-false, ne_eqb}
 use Rattle.std.proofs.lemmas.List.Concat.{flat_map-cons}
-use Rattle.std.proofs.lemmas.List.Elements.{All-cons, All-head, All-nil, All-push, All-tail, All-weaker}
+use Rattle.std.proofs.lemmas.List.Elements.{All-head, All-nil, All-push, All-tail, All-weaker}
 use Rattle.std.proofs.lemmas.Option.{slice_get_within}
 use Rattle.psy_base.specs.declared.message.Message.{Message}
 use Rattle.psy_base.specs.Extremes.{greatest_of, most_of}
@@ -18,14 +18,14 @@ use Rattle.psy_history.specs.Actions as how
 use Rattle.psy_history.specs.Executors.{Carried, acted_as}
 use Rattle.psy_history.specs.History.{history}
 use Rattle.psy_history.specs.Queues.{queue_of}
-use Rattle.psy_history.specs.Regular.{Goes, MayAsk, Runs, WereStarted, begun_by}
+use Rattle.psy_history.specs.Regular.{Goes, MayAsk, begun_by}
 use Rattle.psy_history.specs.Schedule.{Turn}
 use Rattle.psy_history.specs.Summary.{ages_of, at_least, dates_from, most_held, numbers_in, reach}
-use Rattle.psy_history.specs.Visible.{held, in_order, message_of, messages, messages_by, messages_from, sent_to}
+use Rattle.psy_history.specs.Visible.{held, in_order, message_of, messages, messages_by, messages_from}
 use Rattle.psy_history.specs.Ways.{IsSentBy}
 use Rattle.psy_meaning.specs.CodeWays.{agent_code_at}
 use Rattle.psy_meaning.specs.KnownWays.{Ways}
-use Rattle.psy_kernel.specs.Acting.{IsOfCode, came_to}
+use Rattle.psy_kernel.specs.Acting.{IsOfCode}
 use Rattle.psy_kernel.proofs.Verdicts.{in_budget, is_whole}
 
 -- ---- lists of nothing

@@ -1,16 +1,14 @@
 -- An engine whose last date was done: who is busy there.
-use Rattle.std.proofs.Common.{◌≡◌, ℕ, suc, ◌+◌, ◌-◌, ◌*◌, ◌<◌, ◌≤◌, true, false, List, [], ◌∷◌, length, get_or, slice_get, Option, Some, None, refl, sym, ap, subst, ◌∙◌, inl, inr, arith}
+use Rattle.std.proofs.Common.{◌≡◌, ℕ, suc, ◌+◌, ◌-◌, ◌*◌, ◌<◌, ◌≤◌, List, [], length, slice_get, Option, Some, None, sym, ap, subst, ◌∙◌, inl, inr, arith}
 use Rattle.std.specs.Prelude.{MatchOption}
 use Rattle.std.proofs.Math.Numerals.{add-one}
 use Rattle.std.proofs.lemmas.Bool.{cases_lt}
-use Rattle.std.proofs.lemmas.List.Elements.{All-head}
 use Rattle.std.proofs.lemmas.Option.{slice_get-get_or}
-use Rattle.std.specs.List.{All}
 use Rattle.psy_code.specs.declared.code.Code.{Code}
-use Rattle.psy_history.specs.Actions.{Action, System}
+use Rattle.psy_history.specs.Actions.{System}
 use Rattle.psy_history.specs.History.{history}
 use Rattle.psy_history.specs.Processors.{processor_at, processors}
-use Rattle.psy_history.specs.Regular.{IsLawful, IsRegular}
+use Rattle.psy_history.specs.Regular.{IsLawful}
 use Rattle.psy_history.specs.Resuming.{IsQuiet, is_busy}
 use Rattle.psy_history.specs.Runs.{IsRun}
 use Rattle.psy_history.specs.Schedule.{Turn}
@@ -31,7 +29,7 @@ use Rattle.psy_kernel.proofs.Engines.{opening_in, order_in, run_in, turns_in}
 use Rattle.psy_kernel.proofs.Parts.{shared_alike}
 use Rattle.psy_kernel.proofs.Started.{Sits}
 use Rattle.psy_kernel.proofs.SummaryLines.{all_turns}
-use Rattle.psy_kernel.proofs.UnderWay.{IsAgentAt, under_way_is}
+use Rattle.psy_kernel.proofs.UnderWay.{IsAgentAt, none_known, under_way_is}
 
 -- The last date of an engine was done.
 pub record IsDone (k : Inside) : Type 0 where
@@ -114,11 +112,7 @@ module _ (k : Inside) (at : IsDone k) where
 
   -- An agent that there isn't has no actions.
   pub none_unknown : (dates agent : ℕ) → length k.plan.unit.agents ≤ agent → history s dates agent ≡ []
-  none_unknown dates agent past = by (history s dates agent) (at.lawful.actions dates agent).each
-    where
-      by : (rs : List Action) → All (IsRegular s agent) rs → rs ≡ []
-      by [] all = refl
-      by (r ∷ more) all = absurd (let known = IsRegular.known (All-head (IsRegular s agent) r more all) in omega (arith, known, past))
+  none_unknown dates agent past = none_known s at.lawful dates agent past
 
   quiet_from : NoneUnderWay until k.shared.seats.items (length k.shared.seats.items) → IsQuiet s until
   quiet_from none agent = elim (cases_lt agent (length k.plan.unit.agents)) [

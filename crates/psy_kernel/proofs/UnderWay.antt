@@ -1,15 +1,13 @@
 -- Behind a date, an agent's action is under way where its seat says so; where none is, an agent waits, is silent, or starts an action there.
-use Rattle.std.proofs.Common.{◌≡◌, ◌⊎◌, ℕ, suc, ◌+◌, ◌<◌, ◌≤◌, ◌==◌, ◌&&◌, Bool, true, false, not, nat_lt, nat_le, List, [], ◌∷◌, length, Option, Some, None, ℤ, refl, sym, ap, subst, ◌∙◌, inl, inr, arith}
-use Rattle.std.specs.List.{All, Contains}
-use Rattle.std.proofs.lemmas.Bool.{and_cases, cases_eq, eq-eqb, le-ltb, lt-leb, lt-ltb, ltb-false, ne_eqb, not-false}
+use Rattle.std.proofs.Common.{◌≡◌, ◌⊎◌, ℕ, zero, suc, ◌+◌, ◌<◌, ◌≤◌, ◌==◌, ◌&&◌, Bool, true, false, not, nat_lt, nat_le, List, [], ◌∷◌, length, Option, Some, None, refl, sym, ap, subst, ◌∙◌, inl, inr, arith}
+use Rattle.std.specs.List.{All}
+use Rattle.std.proofs.lemmas.Bool.{and_cases, cases_eq, cond-true, eq-eqb, le-ltb, lt-leb, lt-ltb, ltb-false, ne_eqb, not-false}
 use Rattle.std.proofs.lemmas.List.Elements.{All-head}
-use Rattle.psy_budget.specs.declared.charge.Stall.{Stall}
-use Rattle.psy_history.specs.Actions.{Action, Next, Opening, System, Verdict, Done, Trapped, Overran, is_done, is_silent, next_by, next_of, rests}
+use Rattle.psy_history.specs.Actions.{Action, Next, System, Verdict, Done, Trapped, Overran, is_done, is_silent, next_by, next_of, rests}
 use Rattle.psy_history.specs.History.{action_of, history, with_start}
 use Rattle.psy_history.specs.Regular.{IsLawful, IsRegular, WereStarted, first_number}
 use Rattle.psy_history.specs.Resuming.{is_busy}
 use Rattle.psy_history.specs.Schedule.{Turn, is_pending, units}
-use Rattle.psy_dates.specs.declared.seat.Phase.{Phase}
 use Rattle.psy_dates.specs.declared.seat.Phase.TheVariants as phase
 use Rattle.psy_dates.specs.declared.seat.Seat.{Seat}
 use Rattle.psy_dates.specs.Standing.{IsSeated, SeatOf, phase_by}
@@ -34,6 +32,42 @@ not_loud false late e = (refl, e)
 early_loud : (done late : Bool) → late ≡ false → (not done && late) ≡ false
 early_loud true late e = refl
 early_loud false late e = e
+
+-- ---- an agent that there isn't
+
+-- It has no actions.
+pub none_known : (s : System) → IsLawful s → (dates agent : ℕ) → length s.unit.agents ≤ agent → history s dates agent ≡ []
+none_known s lawful dates agent past = from (history s dates agent) (lawful.actions dates agent).each
+  where
+    from : (rs : List Action) → All (IsRegular s agent) rs → rs ≡ []
+    from [] all = refl
+    from (r ∷ more) all = absurd (let known = IsRegular.known (All-head (IsRegular s agent) r more all) in omega (arith, known, past))
+
+-- ---- an agent that hasn't started
+
+-- Where an agent has no action yet, its first one starts no earlier than at the dates that are over.
+module _ (s : System) (agent : ℕ) (n : Next) (is : s.opening.starts agent ≡ Some n) where
+  none_yet : (date : ℕ) → history s (suc date) agent ≡ [] → history s date agent ≡ []
+  none_yet date none = elim (grown_by s (history s date) date agent (history s date agent) (next_of s agent (history s date agent))) [
+    | inl same ↦ sym same ∙ none
+    | inr (m, next, at, more) ↦ (let no : action_of s (history s date) agent m ∷ history s date agent ≡ [] = sym more ∙ none in absurd cc)
+  ]
+
+  pub first_late : (date : ℕ) → history s date agent ≡ [] → date ≤ n.start
+  first_late zero none = omega arith
+  first_late (suc date) none =
+      let old : List Action = history s date agent in
+      let before : old ≡ [] = none_yet date none in
+      let late = first_late date before in
+      let next : next_of s agent old ≡ Some n = ap (next_of s agent) before ∙ is in
+      let kept : with_start s (history s date) date agent old (Some n) ≡ [] = sym (ap (with_start s (history s date) date agent old) next) ∙ none in
+      elim (cases_eq n.start date) [
+        | inl at ↦ (
+            let no : action_of s (history s date) agent n ∷ old ≡ [] =
+            sym (cond-true (n.start == date) (action_of s (history s date) agent n ∷ old) old (eq-eqb n.start date at)) ∙ kept in
+            absurd cc)
+        | inr other ↦ grind (arith, other, late)
+      ]
 
 -- ---- an agent at a date
 

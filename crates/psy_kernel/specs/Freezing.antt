@@ -1,20 +1,21 @@
 -- A run that is done, as another one may go on from it.
-use Rattle.std.specs.Prelude.{◌≡◌, ℕ, suc, ◌*◌, ◌==◌, ◌<◌, Bool, true, false, not, if◌then◌else◌, List, [], get_or, length, map, Option, Some, None}
+use Rattle.std.specs.Prelude.{◌≡◌, ℕ, suc, ◌-◌, ◌*◌, ◌==◌, ◌<◌, Bool, true, false, nat_lt, not, if◌then◌else◌, List, [], get_or, length, map, Option, Some, None}
 use Rattle.std.specs.Prelude.{slice_get, pos, ℤ}
-use Rattle.std.specs.List.{All}
+use Rattle.std.specs.List.{All, range_with_len}
 use Rattle.psy_code.specs.declared.code.AgentCode.{AgentCode}
 use Rattle.psy_code.specs.declared.code.Code.{Code}
 use Rattle.psy_code.specs.declared.code.CopyInit.{CopyInit}
 use Rattle.psy_dates.specs.declared.opening.AgentOpening.{AgentOpening}
 use Rattle.psy_dates.specs.declared.opening.Begun.{Begun}
 use Rattle.psy_dates.specs.declared.opening.NextAction.{NextAction}
+use Rattle.psy_dates.specs.declared.opening.Opening.{Opening as State}
 use Rattle.psy_dates.specs.declared.opening.StreamOpening.{StreamOpening}
 use Rattle.psy_dates.specs.declared.opening.VarOpening.{VarOpening}
 use Rattle.psy_dates.specs.declared.plan.Plan.{Plan}
 use Rattle.psy_dates.specs.declared.seat.Phase.{Phase}
 use Rattle.psy_dates.specs.declared.seat.Phase.TheVariants as phase
 use Rattle.psy_dates.specs.declared.seat.Seat.{Seat}
-use Rattle.psy_history.specs.Actions.{Opening, System}
+use Rattle.psy_history.specs.Actions.{Next, Opening, System}
 use Rattle.psy_history.specs.Executors.{by_code, copy_in}
 use Rattle.psy_history.specs.History.{history}
 use Rattle.psy_history.specs.Resuming.{is_busy, opening_at}
@@ -96,10 +97,9 @@ agent_by its committed seat (Some runner) =
 abbrev pub agent_left : Code → List ℤ → List Seat → List Runner → ℕ → AgentOpening
 agent_left code committed seats runners agent = agent_by (agent_code_at code agent) committed (seat_at seats agent) (slice_get runners agent)
 
--- The code's working copies are of variables that there are, and where an agent acts, its machine has as many cells as the code.
-pub record MayLeave (its : AgentCode) (committed : List ℤ) (seat : Seat) (runner : Runner) : Type 0 where
-  pub copies : All (λ (c : CopyInit). c.variable < length committed) its.copies
-  pub cells : is_acting seat.phase ≡ true → length runner.machine.machine.home.cells ≡ length its.cells
+-- The code's working copies are of variables that there are.
+abbrev pub MayLeave : AgentCode → List ℤ → Type 0
+MayLeave its committed = All (λ (c : CopyInit). c.variable < length committed) its.copies
 
 -- ---- what is left of variables and streams
 
@@ -108,3 +108,48 @@ variable_left rings reaches variable = record { values = get_or rings variable [
 
 abbrev pub stream_left : List Queued → List ℕ → ℕ → StreamOpening
 stream_left queues helds stream = record { held = get_or helds stream 0; messages = (get_or queues stream (record { size = 0; messages = [] })).messages }
+
+-- ---- the state of an opening
+
+-- The action that an agent starts, with the cells that it carries
+abbrev pub action_of : Next → NextAction
+action_of n = record { number = n.number; point = n.point; cells = n.carried.cells }
+
+-- By working copy, the value of its variable that was committed last
+abbrev pub copies_of : Opening → List CopyInit → List ℤ
+copies_of opening own = map (λ (c : CopyInit). opening.committed c.variable) own
+
+-- What an agent has that starts this action: nothing where it starts behind the dates that were done, since it hasn't begun then
+abbrev pub begun_with : ℕ → List ℤ → Option Next → Option Begun
+begun_with dates copies None = None
+begun_with dates copies (Some n) = if nat_lt n.start dates then Some (record { copies = copies; action = Some (action_of n) }) else None
+
+-- What an agent has once its first date has come, by whether it is silent and by what it starts
+abbrev pub begun_of : ℕ → List ℤ → Bool → Option Next → Option Begun
+begun_of dates copies true next = Some (record { copies = copies; action = None })
+begun_of dates copies false next = begun_with dates copies next
+
+-- What an agent has
+abbrev pub agent_of : Plan → Opening → ℕ → AgentOpening
+agent_of plan opening agent = record {
+  begun = begun_of opening.dates (copies_of opening (agent_code_at plan.code agent).copies) (opening.silent agent) (opening.starts agent);
+  count = opening.count agent;
+  slack = opening.slack agent;
+}
+
+-- What a variable has
+abbrev pub variable_by : Opening → ℕ → VarOpening
+variable_by opening variable = record { values = opening.published variable; reach = opening.reach variable }
+
+-- What a stream has
+abbrev pub stream_by : Opening → ℕ → StreamOpening
+stream_by opening stream = record { held = opening.most stream; messages = opening.messages stream }
+
+-- The one state of an opening of a plan
+abbrev pub state_by : Plan → Opening → State
+state_by plan opening = record {
+  date = opening.dates - 1;
+  agents = map (agent_of plan opening) (range_with_len 0 (length plan.unit.agents));
+  variables = map (variable_by opening) (range_with_len 0 (length plan.unit.variables));
+  streams = map (stream_by opening) (range_with_len 0 (length plan.unit.streams));
+}

@@ -103,6 +103,13 @@ slice_get-drop xs at n x h e =
     let within : n < length (drop at xs) = omega (arith, length-drop at xs) in
     slice_get-get_or (drop at xs) n x within ∙ ap Some (get_or-drop at xs n x ∙ sym e)
 
+-- The agent's own cells are the front of all cells.
+pub home_is : (f : Inside) (m : FrameStack) → frames_in f ≡ m → IsLaidOut f → (f.home_end.cells ≤ length f.cells.items) × (m.home.cells ≡ take f.home_end.cells f.cells.items)
+home_is f m e ok =
+    let hs = reverse f.headers.items in
+    let own = home-cells hs f.present f.cells.items f.counters.items f.home_end ok.cut in
+    ((end_within hs f.present (length f.cells.items) (length f.counters.items) f.home_end ok.cut).0, ap (λ (s : FrameStack). s.home.cells) (sym e) ∙ own)
+
 -- A cell of the agent's own frame stands among all cells at its own place.
 pub record IsHomeCell (f : Inside) (m : FrameStack) (n : ℕ) : Type 0 where
   pub within : n < length f.cells.items
@@ -110,14 +117,11 @@ pub record IsHomeCell (f : Inside) (m : FrameStack) (n : ℕ) : Type 0 where
 
 pub home_cell : (f : Inside) (m : FrameStack) (n : ℕ) → frames_in f ≡ m → IsLaidOut f → n < length m.home.cells → IsHomeCell f m n
 home_cell f m n e ok less =
-    let hs = reverse f.headers.items in
-    let own = home-cells hs f.present f.cells.items f.counters.items f.home_end ok.cut in
-    let same : m.home.cells ≡ take f.home_end.cells f.cells.items = ap (λ (s : FrameStack). s.home.cells) (sym e) ∙ own in
-    let ends = end_within hs f.present (length f.cells.items) (length f.counters.items) f.home_end ok.cut in
-    let short = length-take-le f.home_end.cells f.cells.items ends.0 in
+    let (ends, same) = home_is f m e ok in
+    let short = length-take-le f.home_end.cells f.cells.items ends in
     let low : n < f.home_end.cells = omega (arith, less, ap length same, short) in
     record {
-      within = omega (arith, low, ends.0);
+      within = omega (arith, low, ends);
       read = λ x is. ap (λ cells. slice_get cells n) same ∙ slice_get-get_or (take f.home_end.cells f.cells.items) n x (omega (arith, low, short)) ∙ ap Some (get_or-take f.home_end.cells f.cells.items n x low ∙ sym is);
     }
 

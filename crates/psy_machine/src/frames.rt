@@ -118,6 +118,13 @@ impl Frames {
         self.cells[number]
     }
 
+    /// The cells of the agent's own frame.
+    pub fn home_cells(&self) -> &[i64]
+        ensures { result.now ≡ self.now.home.cells }
+    {
+        &self.cells[..self.home_end.cells]
+    }
+
     /// A cell of the innermost frame.
     #[inline(always)]
     pub fn cell(&self, number: usize) -> i64

@@ -136,6 +136,13 @@ impl Machine {
         self.frames.home_cell(place as usize)
     }
 
+    /// The values in the cells of the agent's own frame. It takes no memory.
+    pub fn cells(&self) -> &[i64]
+        ensures { result.now ≡ self.now.machine.home.cells }
+    {
+        self.frames.home_cells()
+    }
+
     /// The working copy of a variable that the agent owns.
     pub fn copy(&self, variable: u32) -> i32
         requires { IsSome (copy_of variable self.now.machine.copies) }

@@ -1,5 +1,6 @@
 //! The code of a program, and the ways of its actions.
-ghost use Rattle.std.specs.Prelude.{IfOk};
+ghost use Rattle.std.specs.Prelude.{◌≡◌, IfOk};
+ghost use Rattle.psy_gen.specs.Emission.{code_of};
 ghost use Rattle.psy_gen.specs.SameWays.{HasSameWays};
 ghost use Rattle.psy_meaning.specs.Alike.{ActsAlike};
 ghost use Rattle.psy_meaning.specs.CodeWays.{CanWalk};
@@ -42,6 +43,7 @@ fn ways_of(alloc: Global, unit: &Unit, code: &Code) -> Result<Ways, Memory>
 /// The code of a program, and the ways of its actions, asked once of the code and once of the statements.
 pub fn with_ways(alloc: Global, unit: &Unit) -> Result<Coded, Memory>
     requires text { IsOfText unit.now }
+    ensures code { IfOk result (λ coded. coded.code ≡ code_of unit.now) }
     ensures alike { IfOk result (λ coded. ActsAlike unit.now coded.code) }
     ensures ways { IfOk result (λ coded. AreWaysOf unit.now coded.ways) }
 {

@@ -1,50 +1,67 @@
 -- What words come to keeps its bounds; what a check tells is borne out, and what it accepts can be run.
-use Rattle.std.proofs.Common.{◌≡◌, ◌∙◌, refl, sym, subst, ap, ℕ, ◌*◌, ◌≤◌, List, length, Option, None, Some, ℤ}
+use Rattle.std.proofs.Common.{◌≡◌, ◌↔◌, ◌∙◌, refl, sym, subst, ap, ℕ, ◌*◌, ◌≤◌, List, length, Option, None, Some, ℤ}
 use Rattle.std.specs.Prelude.{FitsSigned}
 use Rattle.std.specs.Int.{w32}
 use Rattle.std.specs.List.{All}
 use Rattle.psy_base.specs.declared.limits.TheConstants.{FILE_BYTES, RUN}
 use Rattle.psy_base.specs.declared.ways.Ways.{Ways as WayLists}
+use Rattle.psy_budget.specs.declared.charge.Stall.{Stall}
+use Rattle.psy_dates.specs.Beginnings.{behind}
+use Rattle.psy_dates.specs.declared.opening.Opening.{Opening as State}
 use Rattle.psy_dates.specs.declared.plan.Plan.{Plan}
-use Rattle.psy_dates.specs.Plans.{IsPlan}
+use Rattle.psy_dates.specs.Plans.{IsPlan, IsSoundFor}
 use Rattle.psy_door.specs.Files.{Files, bytes_under}
 use Rattle.psy_gen.specs.Emission.{code_of}
-use Rattle.psy_graph.specs.Graphs.{IsTimingOf}
+use Rattle.psy_graph.specs.declared.graph.Graph.{Graph as Drawing}
+use Rattle.psy_graph.specs.Graphs.{AreGraphs, AreGraphsBy, IsTimingOf}
 use Rattle.psy_history.specs.Compiled.{AreInputs}
 use Rattle.psy_history.specs.declared.told.Script.{Script as Said}
-use Rattle.psy_history.specs.Scripts.{IsScript, order_of}
+use Rattle.psy_history.specs.Scripts.{IsScript, order_of, stalls_of}
 use Rattle.psy_image.specs.declared.image.Image.{Image as CodeImage}
 use Rattle.psy_image.specs.Images.{spells_image}
 use Rattle.psy_make.specs.Text.{made_text}
 use Rattle.psy_meaning.specs.Alike.{ActsAlike}
+use Rattle.psy_meaning.specs.Flow.{AreAllNexts}
+use Rattle.psy_meaning.specs.ListedWays.{AreWaysOf}
 use Rattle.psy_meaning.specs.Timing.{Timing}
 use Rattle.psy_meaning.specs.Units.{IsBare, IsOfText}
 use Rattle.psy_script.specs.Inputs.{AreListsOf}
 use Rattle.psy_script.specs.Script.{IsScriptOf}
+use Rattle.psy_snap.specs.Bytes.{spelling}
+use Rattle.psy_snap.specs.Faults.{faults_of, least_fault}
+use Rattle.psy_snap.specs.Forms.{form_of}
+use Rattle.psy_snap.specs.Ranges.{FitsState}
+use Rattle.psy_snap.specs.Shapes.{HasForm}
 use Rattle.psy_tree.specs.declared.unit.Unit.{Unit as Whole}
 use Rattle.psy_history.proofs.lemmas.NoInputs.{are_no_inputs}
 use Rattle.psy_plan.specs.Courses.{in_row as plan_in_row}
 use Rattle.psy_plan.specs.Supplies.{IsSupply, Supply}
 use Rattle.psy_plan.specs.Supplies as supplies
 use Rattle.psy_run.specs.Accepted.{IsRunnable}
-use Rattle.psy_run.specs.Answer.{Answers, refused, served, compiling, supplying, supplying_by, listing, scripting, running, trying, executing, tracing, serving, answering}
-use Rattle.psy_run.specs.Asked.{Asks, Command, Run, Check, Graph, Make, Trial, Build, Exec, Audit, Trace}
-use Rattle.psy_run.specs.Bounds.{IsBounded, IsBorneOut, KeepsBounds}
+use Rattle.psy_run.specs.Answer.{Answers, refused, served, compiling, supplying, supplying_by, listing, scripting, running, trying, executing, tracing, saving, resuming, serving, answering}
+use Rattle.psy_run.specs.Asked.{Asks, Command, Run, Check, Graph, Make, Trial, Build, Exec, Audit, Trace, Save, Resume}
+use Rattle.psy_run.specs.Bounds.{IsBounded, IsBorneOut, KeepsBounds, KeepsBoundsBehind}
 use Rattle.psy_run.specs.Courses.{in_row}
-use Rattle.psy_run.specs.Planned.{IsStatedPlan}
-use Rattle.psy_run.specs.Services.{Service, Ran, meaning_by, meaning_of, no_inputs, no_script}
+use Rattle.psy_run.specs.Planned.{IsPlanned, IsStatedPlan}
+use Rattle.psy_run.specs.Services.{Service, Ran, compiled_plan, meaning_behind, meaning_by, meaning_of, no_inputs, no_script}
+use Rattle.psy_run.specs.Steps.{IsStateOf}
 use Rattle.psy_verify.specs.Fits.{IsChecked}
 use Rattle.psy_run.proofs.AskingForms.{decided_asking}
 use Rattle.psy_run.proofs.Courses.{gives_then}
 use Rattle.psy_run.proofs.DecidedAnswers.{compiled, translated}
 use Rattle.psy_run.proofs.DecidedSteps.{TextsHold}
-use Rattle.psy_run.proofs.MeaningText.{Keeps, KeepsByCode, is_no_script}
+use Rattle.psy_run.proofs.MeaningText.{Keeps, KeepsBehind, KeepsByCode, is_no_script}
 use Rattle.psy_run.proofs.PlanLemmas.{Apart, is_feasible_for}
 use Rattle.psy_run.proofs.TopLemmas.{AllBounded, status_some}
 
 -- What is supplied has its graphs, points, sizes and lines, and processors that supply its demand.
 abbrev pub SuppliesHold : Type 0
 SuppliesHold = (unit : Whole) (until : ℕ) (supply : Supply) → IsOfText unit → (supplies.supplying unit until).gives supply → IsSupply unit until supply
+
+-- Where a state has the form of a plan's, numbers in their ranges and no fault, a run of the plan may go on from it.
+abbrev pub StatesHold : Type 0
+StatesHold = (plan : Plan) (graphs : List Drawing) (state : State) (inputs : List (List ℤ)) (stalls : ℕ → List Stall) → AreGraphsBy plan.unit plan.nexts graphs → HasForm (form_of plan graphs) state → FitsState state
+    → least_fault (faults_of (form_of plan graphs) (spelling state)) ≡ None → IsSoundFor plan (behind plan state) inputs stalls
 
 -- ---- bounds
 
@@ -63,6 +80,11 @@ pub record RunsHold : Type 0 where
   pub fits : (plan : Plan) (ways : WayLists) (supply : Supply) → IsBare plan.unit → All (λ v. FitsSigned w32 v.init) plan.unit.variables → IsChecked plan.unit plan.code ways → (supplying_by plan.unit ways plan.until).gives supply
       → plan.nexts ≡ ways.nexts → plan.sizes ≡ supply.sizes → IsPlan plan
   pub keeps_by : KeepsByCode
+  pub ways : (unit : Whole) (nexts : List (List (List ℕ))) → IsOfText unit → AreAllNexts unit nexts → (ways : WayLists) × AreWaysOf unit ways
+  pub fits_text : (plan : Plan) (ways : WayLists) → IsStatedPlan plan → AreWaysOf plan.unit ways → IsPlan plan
+  pub graphs : (unit : Whole) (nexts : List (List (List ℕ))) (graphs : List Drawing) → AreAllNexts unit nexts → AreGraphs unit graphs ↔ AreGraphsBy unit nexts graphs
+  pub states : StatesHold
+  pub keeps_behind : KeepsBehind
 
 -- The points that follow are those of the ways.
 supplied_nexts : (unit : Whole) (ways : WayLists) (until : ℕ) (supply : Supply) → (supplies.supplying_by unit ways until).gives supply → supply.nexts ≡ ways.nexts
@@ -70,18 +92,33 @@ unfolding plan_in_row
 supplied_nexts unit ways until supply (graphs, drawn, (sizes, sized, (lines, rated, (extent, looked, (few, held, (done, feasible, is)))))) = ap (λ (s : Supply). s.nexts) is
 
 module _ (hold : RunsHold) where
-  -- A program that is supplied has a plan, and so keeps its bounds.
+  -- A program that is supplied has a plan,
+  supplied_plan : (unit : Whole) (until : ℕ) (supply : Supply) → IsOfText unit → IsSupply unit until supply → IsStatedPlan (compiled_plan unit supply.nexts supply.sizes until)
+  supplied_plan unit until supply text is = record {
+    compiled = record { text = text; alike = hold.alike unit text; followed = is.followed };
+    buffers = is.sized;
+    supplied = is_feasible_for hold.timing hold.apart (compiled_plan unit supply.nexts supply.sizes until) text.bare is.followed supply is;
+  }
+
+  -- and so keeps its bounds.
   supplied_bounded : (unit : Whole) (until : ℕ) (supply : Supply) (lists : List (List ℤ)) (said : Said) → IsOfText unit → (supplying unit until).gives supply → AreInputs unit lists → IsScript unit said
       → KeepsBounds (meaning_of unit supply.nexts lists said) (order_of unit said) supply.sizes until
   supplied_bounded unit until supply lists said text supplied are script =
-      let plan : Plan = record { unit = unit; code = code_of unit; nexts = supply.nexts; sizes = supply.sizes; until = until } in
+      hold.keeps (compiled_plan unit supply.nexts supply.sizes until) lists said (supplied_plan unit until supply text (hold.met unit until supply text supplied)) are script
+
+  -- It goes on from a state that its bytes spell without a fault, and keeps its bounds behind that.
+  restored_bounded : (unit : Whole) (until : ℕ) (supply : Supply) (bytes : List ℕ) (state : State) (lists : List (List ℤ)) (said : Said) → IsOfText unit → (supplying unit until).gives supply
+      → IsStateOf (form_of (compiled_plan unit supply.nexts supply.sizes until) supply.graphs) bytes state → AreInputs unit lists → IsScript unit said
+      → KeepsBoundsBehind (meaning_behind unit supply.nexts supply.sizes until state lists said) (order_of unit said) supply.sizes until
+  restored_bounded unit until supply bytes state lists said text supplied restored are script =
+      let plan = compiled_plan unit supply.nexts supply.sizes until in
       let is = hold.met unit until supply text supplied in
-      let planned : IsStatedPlan plan = record {
-        compiled = record { text = text; alike = hold.alike unit text; followed = is.followed };
-        buffers = is.sized;
-        supplied = is_feasible_for hold.timing hold.apart plan text.bare is.followed supply is;
-      } in
-      hold.keeps plan lists said planned are script
+      let stated = supplied_plan unit until supply text is in
+      let (ways, listed) = hold.ways unit supply.nexts text is.followed in
+      let planned : IsPlanned plan = record { made = refl; stated = stated; fits = hold.fits_text plan ways stated listed } in
+      let none = subst (λ text. least_fault (faults_of (form_of plan supply.graphs) text) ≡ None) (sym restored.spelled) restored.sound in
+      let sound = hold.states plan supply.graphs state lists (stalls_of said) ((hold.graphs unit supply.nexts supply.graphs is.followed).0 is.drawn) restored.formed restored.ranges none in
+      hold.keeps_behind plan state lists said planned are script sound
 
   -- The lists of an inputs file are inputs of the program.
   listed_inputs : (files : Option Files) (unit : Whole) (inputs : Option (List ℕ)) (lists : List (List ℤ)) → (listing files unit inputs).gives lists → AreInputs unit lists
@@ -106,6 +143,18 @@ module _ (hold : RunsHold) where
   tracing_bounded files name until inputs script done (unit, made, (supply, supplied, (lists, listed, (said, told, (paced, few, (fits, short, is)))))) =
       subst IsBounded (sym is)
       (supplied_bounded unit until supply lists said (compiled hold.of_text files name unit made) supplied (listed_inputs files unit inputs lists listed) (told_script files unit script said told))
+
+  saving_bounded : (files : Option Files) (name : List ℕ) (date : ℕ) (inputs script : Option (List ℕ)) (done : Service) → (saving files name date inputs script).gives done → IsBounded done
+  unfolding in_row
+  saving_bounded files name date inputs script done (unit, made, (supply, supplied, (lists, listed, (said, told, (paced, few, (left, leaves, is)))))) =
+      subst IsBounded (sym is)
+      (supplied_bounded unit date supply lists said (compiled hold.of_text files name unit made) supplied (listed_inputs files unit inputs lists listed) (told_script files unit script said told))
+
+  resuming_bounded : (files : Option Files) (name state : List ℕ) (until : ℕ) (inputs script : Option (List ℕ)) (done : Service) → (resuming files name state until inputs script).gives done → IsBounded done
+  unfolding in_row
+  resuming_bounded files name state until inputs script done (unit, made, (supply, supplied, (bytes, read, (opening, restored, (lists, listed, (said, told, (paced, few, is))))))) =
+      subst IsBounded (sym is)
+      (restored_bounded unit until supply bytes opening lists said (compiled hold.of_text files name unit made) supplied restored (listed_inputs files unit inputs lists listed) (told_script files unit script said told))
 
   trying_bounded : (seed until : ℕ) (done : Service) → (trying seed until).gives done → IsBounded done
   unfolding in_row
@@ -137,6 +186,8 @@ module _ (hold : RunsHold) where
   serving_bounded files (Exec name until inputs script) done gives = executing_bounded files name until inputs script done gives
   serving_bounded files (Audit name until trace script) done (unit, made, (supply, supplied, (text, read, (said, told, (paced, fits, (counts, judged, is)))))) = subst IsBounded (sym is) tt
   serving_bounded files (Trace name until inputs script) done gives = tracing_bounded files name until inputs script done gives
+  serving_bounded files (Save name date inputs script) done gives = saving_bounded files name date inputs script done gives
+  serving_bounded files (Resume name state until inputs script) done gives = resuming_bounded files name state until inputs script done gives
 
   pub answering_bounded : (words : List (List ℕ)) (files : Option Files) (done : Service) → (answering words files).gives done → IsBounded done
   unfolding in_row
@@ -158,6 +209,8 @@ module _ (of_text : TextsHold) (met : SuppliesHold) where
   serving_borne_out files (Exec name until inputs script) done (bytes, read, (it, spelled, (ways, checked, (supply, supplied, (lists, listed, (said, told, (paced, fits, is))))))) = subst IsBorneOut (sym is) tt
   serving_borne_out files (Audit name until trace script) done (unit, made, (supply, supplied, (text, read, (said, told, (paced, fits, (counts, judged, is)))))) = subst IsBorneOut (sym is) tt
   serving_borne_out files (Trace name until inputs script) done (unit, made, (supply, supplied, (lists, listed, (said, told, (paced, few, (fits, short, is)))))) = subst IsBorneOut (sym is) tt
+  serving_borne_out files (Save name date inputs script) done (unit, made, (supply, supplied, (lists, listed, (said, told, (paced, few, (left, leaves, is)))))) = subst IsBorneOut (sym is) tt
+  serving_borne_out files (Resume name state until inputs script) done (unit, made, (supply, supplied, (bytes, read, (opening, restored, (lists, listed, (said, told, (paced, few, is))))))) = subst IsBorneOut (sym is) tt
 
   pub answering_borne_out : (words : List (List ℕ)) (files : Option Files) (done : Service) → (answering words files).gives done → IsBorneOut done
   unfolding in_row

@@ -1,12 +1,13 @@
 -- What words ask for, as it is found word by word.
-use Rattle.std.proofs.Common.{◌≡◌, ◌∙◌, sym, subst, ap, refl, ℕ, zero, suc, ◌<◌, ◌≤◌, List, [], ◌∷◌, length, map, drop, get_or, Option, Some, None, Bool, true, if◌then◌else◌, bytes_eq, codes, arith, drop-cons}
+use Rattle.std.proofs.Common.{◌≡◌, ◌∙◌, sym, subst, ap, refl, ℕ, zero, suc, ◌<◌, ◌≤◌, List, [], ◌∷◌, length, map, drop, get_or, Option, Some, None, Bool, true, false, if◌then◌else◌, MatchOption, bytes_eq, codes, arith, drop-cons}
 use Rattle.std.specs.Prelude.{◌^◌, nat_lt, nat_le, option_and_then}
 use Rattle.std.proofs.lemmas.Bool.{ltb-true, leb-true, lt-ltb, le-leb}
 use Rattle.std.proofs.lemmas.Option.{cond_some, option_and_then_some}
 use Rattle.psy_base.specs.declared.limits.TheConstants.{UNTIL}
 use Rattle.psy_lists.proofs.lemmas.Texts.{same_text}
 use Rattle.psy_text.specs.Words.{number_of}
-use Rattle.psy_run.specs.Asked.{IsDate, IsSeed, Command, Run, Check, Graph, Make, Trial, Build, Exec, Audit, Trace, Asks, asks_run, asks_run_with_inputs, asks_run_with_script, asks_check, asks_graph, asks_make, asks_trial, asks_build, asks_exec, asks_exec_with_inputs, asks_exec_with_script, asks_audit, asks_audit_with_script, asks_trace, asks_trace_with_inputs, asks_trace_with_script, AskNothing}
+use Rattle.psy_run.specs.declared.asked.Command.{Command as Read}
+use Rattle.psy_run.specs.Asked.{IsDate, IsSeed, Command, Run, Check, Graph, Make, Trial, Build, Exec, Audit, Trace, Save, Resume, Asks, AskNothing, asks_run, asks_run_with_inputs, asks_run_with_script, asks_check, asks_graph, asks_make, asks_trial, asks_build, asks_exec, asks_exec_with_inputs, asks_exec_with_script, asks_audit, asks_audit_with_script, asks_trace, asks_trace_with_inputs, asks_trace_with_script, asks_save, asks_save_with_inputs, asks_save_with_script, asks_resume, asks_resume_with_inputs, asks_resume_with_script, asked_by}
 
 -- What is made from the items from one place on, item by item
 pub map-next : {X Y : Type 0} {x : X} {y : Y} {ys : List Y} (f : X → Y) (xs : List X) (k : ℕ) → k < length xs → x ≡ get_or xs k x → y ≡ f x → map f (drop (suc k) xs) ≡ ys → map f (drop k xs) ≡ y ∷ ys
@@ -78,19 +79,26 @@ command_of (first ∷ word ∷ date ∷ []) = option_and_then (λ until.
     else if bytes_eq first (codes "check") then Some (Check word until)
     else if bytes_eq first (codes "trial") then option_and_then (λ seed. Some (Trial seed until)) (seed_of word)
     else if bytes_eq first (codes "trace") then Some (Trace word until None None)
+    else if bytes_eq first (codes "save") then Some (Save word until None None)
     else None) (date_of date)
-command_of (first ∷ word ∷ date ∷ inputs ∷ []) = option_and_then (λ until.
+command_of (first ∷ word ∷ date ∷ inputs ∷ []) = if bytes_eq first (codes "resume") then option_and_then (λ until. Some (Resume word date until None None)) (date_of inputs)
+    else option_and_then (λ until.
     if bytes_eq first (codes "run") then Some (Run word until (Some inputs) None)
     else if bytes_eq first (codes "exec") then Some (Exec word until (Some inputs) None)
     else if bytes_eq first (codes "audit") then Some (Audit word until inputs None)
     else if bytes_eq first (codes "trace") then Some (Trace word until (Some inputs) None)
+    else if bytes_eq first (codes "save") then Some (Save word until (Some inputs) None)
     else None) (date_of date)
-command_of (first ∷ word ∷ date ∷ inputs ∷ script ∷ []) = option_and_then (λ until.
+command_of (first ∷ word ∷ date ∷ inputs ∷ script ∷ []) = if bytes_eq first (codes "resume") then option_and_then (λ until. Some (Resume word date until (Some script) None)) (date_of inputs)
+    else option_and_then (λ until.
     if bytes_eq first (codes "run") then Some (Run word until (Some inputs) (Some script))
     else if bytes_eq first (codes "exec") then Some (Exec word until (Some inputs) (Some script))
     else if bytes_eq first (codes "audit") then Some (Audit word until inputs (Some script))
     else if bytes_eq first (codes "trace") then Some (Trace word until (Some inputs) (Some script))
+    else if bytes_eq first (codes "save") then Some (Save word until (Some inputs) (Some script))
     else None) (date_of date)
+command_of (first ∷ word ∷ state ∷ date ∷ inputs ∷ script ∷ []) =
+    if bytes_eq first (codes "resume") then option_and_then (λ until. Some (Resume word state until (Some inputs) (Some script))) (date_of date) else None
 command_of _ = None
 
 pub to_command : (words : List (List ℕ)) (command : Command) → Asks words command → command_of words ≡ Some command
@@ -120,6 +128,16 @@ to_command words command (asks_trace_with_inputs program date inputs until is da
     ap command_of is ∙ ap (option_and_then (λ until. Some (Trace program until (Some inputs) None))) (to_date date until dated)
 to_command words command (asks_trace_with_script program date inputs script until is dated) =
     ap command_of is ∙ ap (option_and_then (λ until. Some (Trace program until (Some inputs) (Some script)))) (to_date date until dated)
+to_command words command (asks_save program word date is dated) = ap command_of is ∙ ap (option_and_then (λ until. Some (Save program until None None))) (to_date word date dated)
+to_command words command (asks_save_with_inputs program word inputs date is dated) =
+    ap command_of is ∙ ap (option_and_then (λ until. Some (Save program until (Some inputs) None))) (to_date word date dated)
+to_command words command (asks_save_with_script program word inputs script date is dated) =
+    ap command_of is ∙ ap (option_and_then (λ until. Some (Save program until (Some inputs) (Some script)))) (to_date word date dated)
+to_command words command (asks_resume program state date until is dated) = ap command_of is ∙ ap (option_and_then (λ until. Some (Resume program state until None None))) (to_date date until dated)
+to_command words command (asks_resume_with_inputs program state date inputs until is dated) =
+    ap command_of is ∙ ap (option_and_then (λ until. Some (Resume program state until (Some inputs) None))) (to_date date until dated)
+to_command words command (asks_resume_with_script program state date inputs script until is dated) =
+    ap command_of is ∙ ap (option_and_then (λ until. Some (Resume program state until (Some inputs) (Some script)))) (to_date date until dated)
 
 -- `make` and a word that is no seed ask for nothing.
 pub unmade : (first word : List ℕ) → true ≡ bytes_eq first (codes "make") → ((seed : ℕ) → IsSeed word seed → ⊥) → AskNothing (first ∷ word ∷ [])
@@ -142,12 +160,56 @@ unfolding command_of
 undated_three first word date none command asks =
     option_and_then_some _ (date_of date) command (to_command (first ∷ word ∷ date ∷ []) command asks) (λ until found that. none until (from_date date until found))
 
-pub undated_four : (first program date inputs : List ℕ) → ((until : ℕ) → IsDate date until → ⊥) → AskNothing (first ∷ program ∷ date ∷ inputs ∷ [])
-unfolding command_of
-undated_four first program date inputs none command asks =
-    option_and_then_some _ (date_of date) command (to_command (first ∷ program ∷ date ∷ inputs ∷ []) command asks) (λ until found that. none until (from_date date until found))
+-- What follows where the first word isn't `resume`
+no_resume : (first : List ℕ) (this other : Option Command) (command : Command) → false ≡ bytes_eq first (codes "resume") → (if bytes_eq first (codes "resume") then this else other) ≡ Some command → other ≡ Some command
+no_resume first this other command different is = sym (ap (λ t. if t then this else other) (sym different)) ∙ is
 
-pub undated_five : (first program date inputs script : List ℕ) → ((until : ℕ) → IsDate date until → ⊥) → AskNothing (first ∷ program ∷ date ∷ inputs ∷ script ∷ [])
+pub undated_four : (first program date inputs : List ℕ) → false ≡ bytes_eq first (codes "resume") → ((until : ℕ) → IsDate date until → ⊥) → AskNothing (first ∷ program ∷ date ∷ inputs ∷ [])
 unfolding command_of
-undated_five first program date inputs script none command asks =
-    option_and_then_some _ (date_of date) command (to_command (first ∷ program ∷ date ∷ inputs ∷ script ∷ []) command asks) (λ until found that. none until (from_date date until found))
+undated_four first program date inputs different none command asks =
+    option_and_then_some _ (date_of date) command (no_resume first _ _ command different (to_command (first ∷ program ∷ date ∷ inputs ∷ []) command asks)) (λ until found that. none until (from_date date until found))
+
+pub undated_five : (first program date inputs script : List ℕ) → false ≡ bytes_eq first (codes "resume") → ((until : ℕ) → IsDate date until → ⊥) → AskNothing (first ∷ program ∷ date ∷ inputs ∷ script ∷ [])
+unfolding command_of
+undated_five first program date inputs script different none command asks =
+    option_and_then_some _ (date_of date) command (no_resume first _ _ command different (to_command (first ∷ program ∷ date ∷ inputs ∷ script ∷ []) command asks)) (λ until found that. none until (from_date date until found))
+
+-- ---- `resume`
+
+-- What was found of the words behind `resume` is what they all ask for.
+asked_for : (words : List (List ℕ)) (date : List ℕ) (make : ℕ → Command) (found : Option Read) → ((command : Command) → Asks words command → (until : ℕ) × IsDate date until)
+    → ((until : ℕ) → IsDate date until → Asks words (make until)) → MatchOption found ((until : ℕ) → IsDate date until → ⊥) (λ read. (until : ℕ) × IsDate date until × (asked_by read ≡ make until))
+    → MatchOption found (AskNothing words) (λ read. Asks words (asked_by read))
+asked_for words date make None dated asks none = λ command asked. let (until, is) = dated command asked in none until is
+asked_for words date make (Some read) dated asks (until, is, same) = subst (Asks words) (sym same) (asks until is)
+
+module _ (first program state date : List ℕ) (is : true ≡ bytes_eq first (codes "resume")) (found : Option Read) where
+  -- the first word
+  resume : first ≡ codes "resume"
+  resume = same_text first (codes "resume") is
+
+  -- the date among words that begin with it
+  dated : (rest : List (List ℕ)) (make : ℕ → Command) → ((command : Command) → Asks (codes "resume" ∷ rest) command → option_and_then (λ until. Some (make until)) (date_of date) ≡ Some command)
+      → (command : Command) → Asks (first ∷ rest) command → (until : ℕ) × IsDate date until
+  dated rest make by command asks = option_and_then_some (λ until. Some (make until)) (date_of date) command (by command (subst (λ w. Asks (w ∷ rest) command) resume asks)) (λ until that same. (until, from_date date until that))
+
+  pub resume_four : MatchOption found ((until : ℕ) → IsDate date until → ⊥) (λ read. (until : ℕ) × IsDate date until × (asked_by read ≡ Resume program state until None None))
+      → MatchOption found (AskNothing (first ∷ program ∷ state ∷ date ∷ [])) (λ read. Asks (first ∷ program ∷ state ∷ date ∷ []) (asked_by read))
+  unfolding command_of
+  resume_four = asked_for (first ∷ program ∷ state ∷ date ∷ []) date (λ until. Resume program state until None None) found
+      (dated (program ∷ state ∷ date ∷ []) (λ until. Resume program state until None None) (λ command asks. to_command (codes "resume" ∷ program ∷ state ∷ date ∷ []) command asks))
+      (λ until day. asks_resume program state date until (ap (λ w. w ∷ program ∷ state ∷ date ∷ []) resume) day)
+
+  pub resume_five : (inputs : List ℕ) → MatchOption found ((until : ℕ) → IsDate date until → ⊥) (λ read. (until : ℕ) × IsDate date until × (asked_by read ≡ Resume program state until (Some inputs) None))
+      → MatchOption found (AskNothing (first ∷ program ∷ state ∷ date ∷ inputs ∷ [])) (λ read. Asks (first ∷ program ∷ state ∷ date ∷ inputs ∷ []) (asked_by read))
+  unfolding command_of
+  resume_five inputs = asked_for (first ∷ program ∷ state ∷ date ∷ inputs ∷ []) date (λ until. Resume program state until (Some inputs) None) found
+      (dated (program ∷ state ∷ date ∷ inputs ∷ []) (λ until. Resume program state until (Some inputs) None) (λ command asks. to_command (codes "resume" ∷ program ∷ state ∷ date ∷ inputs ∷ []) command asks))
+      (λ until day. asks_resume_with_inputs program state date inputs until (ap (λ w. w ∷ program ∷ state ∷ date ∷ inputs ∷ []) resume) day)
+
+  pub resume_six : (inputs script : List ℕ) → MatchOption found ((until : ℕ) → IsDate date until → ⊥) (λ read. (until : ℕ) × IsDate date until × (asked_by read ≡ Resume program state until (Some inputs) (Some script)))
+      → MatchOption found (AskNothing (first ∷ program ∷ state ∷ date ∷ inputs ∷ script ∷ [])) (λ read. Asks (first ∷ program ∷ state ∷ date ∷ inputs ∷ script ∷ []) (asked_by read))
+  unfolding command_of
+  resume_six inputs script = asked_for (first ∷ program ∷ state ∷ date ∷ inputs ∷ script ∷ []) date (λ until. Resume program state until (Some inputs) (Some script)) found
+      (dated (program ∷ state ∷ date ∷ inputs ∷ script ∷ []) (λ until. Resume program state until (Some inputs) (Some script)) (λ command asks. to_command (codes "resume" ∷ program ∷ state ∷ date ∷ inputs ∷ script ∷ []) command asks))
+      (λ until day. asks_resume_with_script program state date inputs script until (ap (λ w. w ∷ program ∷ state ∷ date ∷ inputs ∷ script ∷ []) resume) day)

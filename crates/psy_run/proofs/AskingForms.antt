@@ -3,7 +3,7 @@ use Rattle.std.proofs.Common.{◌≡◌, ◌∙◌, sym, subst, ap, refl, ℕ, L
 use Rattle.std.proofs.lemmas.Option.{none-some, same_Some, option_and_then_some}
 use Rattle.psy_lists.proofs.lemmas.Texts.{same_text}
 use Rattle.psy_run.specs.declared.refusal.Refusal.TheVariants.{Words}
-use Rattle.psy_run.specs.Asked.{Command, Asks, asks_run, asks_run_with_inputs, asks_run_with_script, asks_check, asks_graph, asks_make, asks_trial, asks_build, asks_exec, asks_exec_with_inputs, asks_exec_with_script, asks_audit, asks_audit_with_script, asks_trace, asks_trace_with_inputs, asks_trace_with_script}
+use Rattle.psy_run.specs.Asked.{Command, Asks, asks_run, asks_run_with_inputs, asks_run_with_script, asks_check, asks_graph, asks_make, asks_trial, asks_build, asks_exec, asks_exec_with_inputs, asks_exec_with_script, asks_audit, asks_audit_with_script, asks_trace, asks_trace_with_inputs, asks_trace_with_script, asks_save, asks_save_with_inputs, asks_save_with_script, asks_resume, asks_resume_with_inputs, asks_resume_with_script}
 use Rattle.psy_run.specs.Steps.{asking}
 use Rattle.psy_run.proofs.AskedLemmas.{date_of, from_date, seed_of, from_seed, command_of, to_command}
 use Rattle.psy_run.proofs.Courses.{IsSome, IsDecided}
@@ -43,7 +43,10 @@ of_three first word date command is = option_and_then_some _ (date_of date) comm
             (λ seed drawn same. subst (Asks (first ∷ word ∷ date ∷ [])) (same_Some _ command same) (asks_trial word date seed until (ap (λ w. w ∷ word ∷ date ∷ []) trial.0) (from_seed word seed drawn) (from_date date until found)))
         | inr fifth ↦ elim (chosen first (codes "trace") _ _ command fifth) [
           | inl trace ↦ subst (Asks (first ∷ word ∷ date ∷ [])) (same_Some _ command trace.1) (asks_trace word date until (ap (λ w. w ∷ word ∷ date ∷ []) trace.0) (from_date date until found))
-          | inr none ↦ absurd (none-some command none)
+          | inr sixth ↦ elim (chosen first (codes "save") _ _ command sixth) [
+            | inl save ↦ subst (Asks (first ∷ word ∷ date ∷ [])) (same_Some _ command save.1) (asks_save word date until (ap (λ w. w ∷ word ∷ date ∷ []) save.0) (from_date date until found))
+            | inr none ↦ absurd (none-some command none)
+          ]
         ]
       ]
     ]
@@ -52,43 +55,70 @@ of_three first word date command is = option_and_then_some _ (date_of date) comm
 
 of_four : (first program date inputs : List ℕ) (command : Command) → command_of (first ∷ program ∷ date ∷ inputs ∷ []) ≡ Some command → Asks (first ∷ program ∷ date ∷ inputs ∷ []) command
 unfolding command_of
-of_four first program date inputs command is = option_and_then_some _ (date_of date) command is (λ until found that. elim (chosen first (codes "run") _ _ command that) [
-  | inl run ↦ subst (Asks (first ∷ program ∷ date ∷ inputs ∷ [])) (same_Some _ command run.1)
-      (asks_run_with_inputs program date inputs until (ap (λ w. w ∷ program ∷ date ∷ inputs ∷ []) run.0) (from_date date until found))
-  | inr other ↦ elim (chosen first (codes "exec") _ _ command other) [
-    | inl exec ↦ subst (Asks (first ∷ program ∷ date ∷ inputs ∷ [])) (same_Some _ command exec.1)
-        (asks_exec_with_inputs program date inputs until (ap (λ w. w ∷ program ∷ date ∷ inputs ∷ []) exec.0) (from_date date until found))
-    | inr neither ↦ elim (chosen first (codes "audit") _ _ command neither) [
-      | inl audit ↦ subst (Asks (first ∷ program ∷ date ∷ inputs ∷ [])) (same_Some _ command audit.1)
-          (asks_audit program date inputs until (ap (λ w. w ∷ program ∷ date ∷ inputs ∷ []) audit.0) (from_date date until found))
-      | inr last ↦ elim (chosen first (codes "trace") _ _ command last) [
-        | inl trace ↦ subst (Asks (first ∷ program ∷ date ∷ inputs ∷ [])) (same_Some _ command trace.1)
-            (asks_trace_with_inputs program date inputs until (ap (λ w. w ∷ program ∷ date ∷ inputs ∷ []) trace.0) (from_date date until found))
-        | inr none ↦ absurd (none-some command none)
+of_four first program date inputs command whole = elim (chosen first (codes "resume") _ _ command whole) [
+  | inl resume ↦ option_and_then_some _ (date_of inputs) command resume.1
+      (λ until found that. subst (Asks (first ∷ program ∷ date ∷ inputs ∷ [])) (same_Some _ command that)
+      (asks_resume program date inputs until (ap (λ w. w ∷ program ∷ date ∷ inputs ∷ []) resume.0) (from_date inputs until found)))
+  | inr is ↦ option_and_then_some _ (date_of date) command is (λ until found that. elim (chosen first (codes "run") _ _ command that) [
+    | inl run ↦ subst (Asks (first ∷ program ∷ date ∷ inputs ∷ [])) (same_Some _ command run.1)
+        (asks_run_with_inputs program date inputs until (ap (λ w. w ∷ program ∷ date ∷ inputs ∷ []) run.0) (from_date date until found))
+    | inr other ↦ elim (chosen first (codes "exec") _ _ command other) [
+      | inl exec ↦ subst (Asks (first ∷ program ∷ date ∷ inputs ∷ [])) (same_Some _ command exec.1)
+          (asks_exec_with_inputs program date inputs until (ap (λ w. w ∷ program ∷ date ∷ inputs ∷ []) exec.0) (from_date date until found))
+      | inr neither ↦ elim (chosen first (codes "audit") _ _ command neither) [
+        | inl audit ↦ subst (Asks (first ∷ program ∷ date ∷ inputs ∷ [])) (same_Some _ command audit.1)
+            (asks_audit program date inputs until (ap (λ w. w ∷ program ∷ date ∷ inputs ∷ []) audit.0) (from_date date until found))
+        | inr last ↦ elim (chosen first (codes "trace") _ _ command last) [
+          | inl trace ↦ subst (Asks (first ∷ program ∷ date ∷ inputs ∷ [])) (same_Some _ command trace.1)
+              (asks_trace_with_inputs program date inputs until (ap (λ w. w ∷ program ∷ date ∷ inputs ∷ []) trace.0) (from_date date until found))
+          | inr fifth ↦ elim (chosen first (codes "save") _ _ command fifth) [
+            | inl save ↦ subst (Asks (first ∷ program ∷ date ∷ inputs ∷ [])) (same_Some _ command save.1)
+                (asks_save_with_inputs program date inputs until (ap (λ w. w ∷ program ∷ date ∷ inputs ∷ []) save.0) (from_date date until found))
+            | inr none ↦ absurd (none-some command none)
+          ]
+        ]
       ]
     ]
-  ]
-])
+  ])
+]
 
 of_five : (first program date inputs script : List ℕ) (command : Command) → command_of (first ∷ program ∷ date ∷ inputs ∷ script ∷ []) ≡ Some command → Asks (first ∷ program ∷ date ∷ inputs ∷ script ∷ []) command
 unfolding command_of
-of_five first program date inputs script command is = option_and_then_some _ (date_of date) command is (λ until found that. elim (chosen first (codes "run") _ _ command that) [
-  | inl run ↦ subst (Asks (first ∷ program ∷ date ∷ inputs ∷ script ∷ [])) (same_Some _ command run.1)
-      (asks_run_with_script program date inputs script until (ap (λ w. w ∷ program ∷ date ∷ inputs ∷ script ∷ []) run.0) (from_date date until found))
-  | inr other ↦ elim (chosen first (codes "exec") _ _ command other) [
-    | inl exec ↦ subst (Asks (first ∷ program ∷ date ∷ inputs ∷ script ∷ [])) (same_Some _ command exec.1)
-        (asks_exec_with_script program date inputs script until (ap (λ w. w ∷ program ∷ date ∷ inputs ∷ script ∷ []) exec.0) (from_date date until found))
-    | inr neither ↦ elim (chosen first (codes "audit") _ _ command neither) [
-      | inl audit ↦ subst (Asks (first ∷ program ∷ date ∷ inputs ∷ script ∷ [])) (same_Some _ command audit.1)
-          (asks_audit_with_script program date inputs script until (ap (λ w. w ∷ program ∷ date ∷ inputs ∷ script ∷ []) audit.0) (from_date date until found))
-      | inr last ↦ elim (chosen first (codes "trace") _ _ command last) [
-        | inl trace ↦ subst (Asks (first ∷ program ∷ date ∷ inputs ∷ script ∷ [])) (same_Some _ command trace.1)
-            (asks_trace_with_script program date inputs script until (ap (λ w. w ∷ program ∷ date ∷ inputs ∷ script ∷ []) trace.0) (from_date date until found))
-        | inr none ↦ absurd (none-some command none)
+of_five first program date inputs script command whole = elim (chosen first (codes "resume") _ _ command whole) [
+  | inl resume ↦ option_and_then_some _ (date_of inputs) command resume.1
+      (λ until found that. subst (Asks (first ∷ program ∷ date ∷ inputs ∷ script ∷ [])) (same_Some _ command that)
+      (asks_resume_with_inputs program date inputs script until (ap (λ w. w ∷ program ∷ date ∷ inputs ∷ script ∷ []) resume.0) (from_date inputs until found)))
+  | inr is ↦ option_and_then_some _ (date_of date) command is (λ until found that. elim (chosen first (codes "run") _ _ command that) [
+    | inl run ↦ subst (Asks (first ∷ program ∷ date ∷ inputs ∷ script ∷ [])) (same_Some _ command run.1)
+        (asks_run_with_script program date inputs script until (ap (λ w. w ∷ program ∷ date ∷ inputs ∷ script ∷ []) run.0) (from_date date until found))
+    | inr other ↦ elim (chosen first (codes "exec") _ _ command other) [
+      | inl exec ↦ subst (Asks (first ∷ program ∷ date ∷ inputs ∷ script ∷ [])) (same_Some _ command exec.1)
+          (asks_exec_with_script program date inputs script until (ap (λ w. w ∷ program ∷ date ∷ inputs ∷ script ∷ []) exec.0) (from_date date until found))
+      | inr neither ↦ elim (chosen first (codes "audit") _ _ command neither) [
+        | inl audit ↦ subst (Asks (first ∷ program ∷ date ∷ inputs ∷ script ∷ [])) (same_Some _ command audit.1)
+            (asks_audit_with_script program date inputs script until (ap (λ w. w ∷ program ∷ date ∷ inputs ∷ script ∷ []) audit.0) (from_date date until found))
+        | inr last ↦ elim (chosen first (codes "trace") _ _ command last) [
+          | inl trace ↦ subst (Asks (first ∷ program ∷ date ∷ inputs ∷ script ∷ [])) (same_Some _ command trace.1)
+              (asks_trace_with_script program date inputs script until (ap (λ w. w ∷ program ∷ date ∷ inputs ∷ script ∷ []) trace.0) (from_date date until found))
+          | inr fifth ↦ elim (chosen first (codes "save") _ _ command fifth) [
+            | inl save ↦ subst (Asks (first ∷ program ∷ date ∷ inputs ∷ script ∷ [])) (same_Some _ command save.1)
+                (asks_save_with_script program date inputs script until (ap (λ w. w ∷ program ∷ date ∷ inputs ∷ script ∷ []) save.0) (from_date date until found))
+            | inr none ↦ absurd (none-some command none)
+          ]
+        ]
       ]
     ]
-  ]
-])
+  ])
+]
+
+of_six : (first program state date inputs script : List ℕ) (command : Command) → command_of (first ∷ program ∷ state ∷ date ∷ inputs ∷ script ∷ []) ≡ Some command → Asks (first ∷ program ∷ state ∷ date ∷ inputs ∷ script ∷ []) command
+unfolding command_of
+of_six first program state date inputs script command whole = elim (chosen first (codes "resume") _ _ command whole) [
+  | inl resume ↦ option_and_then_some _ (date_of date) command resume.1
+      (λ until found that. subst (Asks (first ∷ program ∷ state ∷ date ∷ inputs ∷ script ∷ [])) (same_Some _ command that)
+      (asks_resume_with_script program state date inputs script until (ap (λ w. w ∷ program ∷ state ∷ date ∷ inputs ∷ script ∷ []) resume.0) (from_date date until found)))
+  | inr none ↦ absurd (none-some command none)
+]
 
 from_command : (words : List (List ℕ)) (command : Command) → command_of words ≡ Some command → Asks words command
 unfolding command_of
@@ -98,7 +128,8 @@ from_command (a ∷ b ∷ []) command is = of_two a b command is
 from_command (a ∷ b ∷ c ∷ []) command is = of_three a b c command is
 from_command (a ∷ b ∷ c ∷ d ∷ []) command is = of_four a b c d command is
 from_command (a ∷ b ∷ c ∷ d ∷ e ∷ []) command is = of_five a b c d e command is
-from_command (a ∷ b ∷ c ∷ d ∷ e ∷ f ∷ words) command is = absurd (none-some command is)
+from_command (a ∷ b ∷ c ∷ d ∷ e ∷ f ∷ []) command is = of_six a b c d e f command is
+from_command (a ∷ b ∷ c ∷ d ∷ e ∷ f ∷ g ∷ words) command is = absurd (none-some command is)
 
 -- ---- the step
 

@@ -1,6 +1,6 @@
 -- What writing lines did: they were written, or cut where a write failed; of some lines, of a date, of many dates, of a run.
-use Rattle.std.proofs.Common.{◌≡◌, ◌∙◌, sym, ap, subst, refl, ℕ, suc, ◌+◌, ◌≤◌, ◌<◌, List, [], ◌∷◌, ◌++◌, append_assoc, length, slice_get, take, drop, drop-cons, take-append-drop, Some, Option, Result, Ok, Err, IfErr, append-nil}
-use Rattle.std.specs.List.{flat_map, range_with_len}
+use Rattle.std.proofs.Common.{◌≡◌, ◌∙◌, sym, ap, subst, refl, ℕ, suc, ◌+◌, ◌≤◌, ◌<◌, List, [], ◌∷◌, ◌++◌, append_assoc, length, slice_get, take, drop, drop-cons, take-append-drop, Some, Option, Result, Ok, Err, IfErr, append-nil, arith}
+use Rattle.std.specs.List.{flat_map}
 use Rattle.std.proofs.lemmas.Grind.{flat_map-append}
 use Rattle.std.proofs.lemmas.List.{take_all, take_more}
 use Rattle.std.proofs.lemmas.Option.{slice_get_within, get_or_from_slice_get}
@@ -11,9 +11,10 @@ use Rattle.psy_kernel.specs.Texts.{lines_of, log_of, text_of}
 use Rattle.psy_log.specs.declared.write.WriteFault.{WriteFault}
 use Rattle.psy_log.specs.Writing.{Written}
 use Rattle.psy_history.specs.Actions.{System}
+use Rattle.psy_history.specs.Summary.{dates_from}
 use Rattle.psy_run.specs.Cuts.{IsCutAt, Wrote, log_lines}
 use Rattle.psy_run.proofs.WritingLemmas.{GrewByFront-append}
-use Rattle.psy_run.proofs.LogLemmas.{dates-more, dates-next, log-whole}
+use Rattle.psy_run.proofs.LogLemmas.{dates-more, dates-next}
 
 text_of-append : (xs ys : List (List ℕ)) → text_of (xs ++ ys) ≡ text_of xs ++ text_of ys
 text_of-append xs ys = flat_map-append (λ line. line) xs ys
@@ -58,21 +59,6 @@ cut_before a c lines rest taken cut = record {
   short = cut.short;
   grew = cut.grew;
 }
-
--- The text of dates is that of their lines.
-pub log_text : (s : System) → s.opening.dates ≡ 0 → (dates : ℕ) → log_of s dates ≡ text_of (log_lines s dates)
-log_text s none dates = log-whole s none dates ∙ by (range_with_len 0 dates)
-  where
-    by : (ds : List ℕ) → flat_map (λ date. text_of (lines_of s date)) ds ≡ text_of (flat_map (lines_of s) ds)
-    by [] = refl
-    by (d ∷ ds) = ap (λ text. text_of (lines_of s d) ++ text) (by ds) ∙ sym (text_of-append (lines_of s d) (flat_map (lines_of s) ds))
-
--- A write of a date's lines failed.
-pub cut_at_date : (a b c : Option (List ℕ)) (s : System) → s.opening.dates ≡ 0 → (date n taken : ℕ) → date + 1 ≤ n → Grew a b (log_of s date) → IsCutAt b c (lines_of s date) taken → IsCutAt a c (log_lines s n) taken
-cut_at_date a b c s none date n taken h first cut =
-    let more = dates-more (lines_of s) (date + 1) n h in
-    let here = cut_behind a b c (log_lines s date) (lines_of s date) taken (subst (Grew a b) (log_text s none date) first) cut in
-    subst (λ lines. IsCutAt a c lines taken) (sym more.1) (cut_before a c (log_lines s (date + 1)) more.0 taken (subst (λ lines. IsCutAt a c lines taken) (sym (dates-next (lines_of s) date)) here))
 
 -- The last part was written, or a write of it failed.
 pub cut_last : (a b c : Option (List ℕ)) (first lines : List (List ℕ)) (result : Result (Unit {0}) WriteFault) → Grew a b (text_of first) → IfErr result (λ fault. IsCutAt b c lines fault.taken) → IfErr result (λ fault. IsCutAt a c (first ++ lines) fault.taken)
@@ -143,3 +129,20 @@ grew_part a b c so_far part next is first second =
 pub cut_part : (a b c : Option (List ℕ)) (so_far part next rest whole : List (List ℕ)) (taken : ℕ) → next ≡ so_far ++ part → whole ≡ next ++ rest → Grew a b (text_of so_far) → IsCutAt b c part taken → IsCutAt a c whole taken
 cut_part a b c so_far part next rest whole taken is all first cut =
     subst (λ ls. IsCutAt a c ls taken) (sym (all ∙ ap (λ front. front ++ rest) is)) (cut_before a c (so_far ++ part) rest taken (cut_behind a b c so_far part taken first cut))
+
+-- ---- date by date
+
+-- The text of dates is that of their lines.
+pub log_text : (s : System) (dates : ℕ) → log_of s dates ≡ text_of (log_lines s dates)
+log_text s dates = by (dates_from s.opening.dates dates)
+  where
+    by : (ds : List ℕ) → flat_map (λ date. text_of (lines_of s date)) ds ≡ text_of (flat_map (lines_of s) ds)
+    by [] = refl
+    by (d ∷ ds) = ap (λ text. text_of (lines_of s d) ++ text) (by ds) ∙ sym (text_of-append (lines_of s d) (flat_map (lines_of s) ds))
+
+-- A write of a date's lines failed.
+pub cut_at_date : (a b c : Option (List ℕ)) (s : System) (date n taken : ℕ) → s.opening.dates ≤ date → date + 1 ≤ n → Grew a b (log_of s date) → IsCutAt b c (lines_of s date) taken → IsCutAt a c (log_lines s n) taken
+cut_at_date a b c s date n taken behind h first cut =
+    let more = dates-more (lines_of s) s.opening.dates (date + 1) n (omega (arith, behind)) h in
+    cut_part a b c (log_lines s date) (lines_of s date) (log_lines s (date + 1)) more.0 (log_lines s n) taken (dates-next (lines_of s) s.opening.dates date behind) more.1
+    (subst (Grew a b) (log_text s date) first) cut

@@ -1,5 +1,5 @@
 -- Words have one answer, where files are told, and no other.
-use Rattle.std.proofs.Common.{◌≡◌, ap, subst, refl, ℕ, ◌≤◌, List, length, Option, None, Some, inl, inr}
+use Rattle.std.proofs.Common.{◌≡◌, ap, refl, ℕ, ◌≤◌, List, length, Option, None, Some, inl, inr}
 use Rattle.psy_base.specs.declared.limits.TheConstants.{FILE_BYTES}
 use Rattle.psy_door.specs.Files.{Files}
 use Rattle.psy_meaning.specs.Units.{IsOfText}
@@ -8,17 +8,19 @@ use Rattle.psy_make.specs.Text.{made_text}
 use Rattle.psy_plan.specs.Programs as programs
 use Rattle.psy_plan.specs.Steps as plan
 use Rattle.psy_plan.specs.Supplies as supplies
+use Rattle.psy_snap.specs.Forms.{form_of}
 use Rattle.psy_run.specs.declared.refusal.File.TheVariants as file
 use Rattle.psy_run.specs.declared.refusal.Refusal.{Refusal}
-use Rattle.psy_run.specs.Answer.{Answers, refused, served, answering, serving, translating, compiling, supplying, listing, scripting, running, checking, drawing, building, executing, judging, tracing, planning, trying}
-use Rattle.psy_run.specs.Asked.{Asks, Command, Run, Check, Graph as Draw, Make, Trial, Build, Exec, Audit, Trace}
+use Rattle.psy_run.specs.Answer.{Answers, refused, served, answering, serving, translating, compiling, supplying, listing, scripting, running, checking, drawing, building, executing, judging, tracing, saving, resuming, planning, trying}
+use Rattle.psy_run.specs.Asked.{Asks, Command, IsPlain, Run, Check, Graph as Draw, Make, Trial, Build, Exec, Audit, Trace, Save, Resume}
 use Rattle.psy_run.specs.Courses.{in_row}
 use Rattle.psy_run.specs.Refusals.{status_of, line_of}
-use Rattle.psy_run.specs.Services.{Service, Ran, Checked, Drawn, Made, Tried, Built, Executed, Audited, Traced, no_inputs, no_script, text_of, trace_by}
+use Rattle.psy_run.specs.Services.{Service, Ran, Checked, Drawn, Made, Tried, Built, Executed, Audited, Traced, Saved, Resumed, compiled_plan, meaning_of, no_inputs, no_script, state_text, text_of, trace_by}
 use Rattle.psy_run.specs.Steps.{judged_by}
 use Rattle.psy_run.proofs.AskingForms.{decided_asking}
 use Rattle.psy_run.proofs.Courses.{IsDecided, IsOne, IsSome, decided_planned, decided_pure, decided_then, one_pure, one_then, some_then}
 use Rattle.psy_run.proofs.DecidedImages.{ImagesDecide, decided_imaging, one_decoding, one_supplying_by, one_verifying}
+use Rattle.psy_run.proofs.DecidedStates.{StatesDecide, one_leaving, one_restoring}
 use Rattle.psy_run.proofs.DecidedSteps.{PlansDecide, TextsHold, decided_reading, decided_stating, decided_directing, decided_pacing, decided_fitting}
 use Rattle.psy_run.proofs.DecidedTraces.{decided_auditing}
 
@@ -55,7 +57,7 @@ module _ (laws : PlansDecide) where
       let one = (decided_planning bytes until few).one in
       (λ other stops'. one.stop other refusal stops' stops, λ done gives. one.apart done refusal gives stops)
 
-module _ (laws : PlansDecide) (images : ImagesDecide) (files : Files) where
+module _ (laws : PlansDecide) (images : ImagesDecide) (states : StatesDecide) (files : Files) where
   decided_compiling : (name : List ℕ) → IsDecided (compiling (Some files) name)
   decided_compiling name = decided_then _ _ (decided_reading files file.Program name) (λ bytes read. decided_translating laws bytes)
 
@@ -127,7 +129,26 @@ module _ (laws : PlansDecide) (images : ImagesDecide) (files : Files) where
       decided_then _ _ (decided_fitting (trace_by unit supply.nexts supply.sizes until lists said)) (λ told fits.
       decided_pure (Traced unit supply.nexts supply.sizes until lists said)))))))
 
-  -- Each command comes to one end at most; and to some, but that an image's is shown by the call itself.
+  one_saving : (name : List ℕ) (date : ℕ) (inputs script : Option (List ℕ)) → IsOne (saving (Some files) name date inputs script)
+  one_saving name date inputs script = one_then _ _ (decided_compiling name).one (λ unit made.
+      one_then _ _ (decided_supplying laws unit date (compiled laws.of_text (Some files) name unit made)).one (λ supply supplied.
+      one_then _ _ (decided_listing unit inputs).one (λ lists listed.
+      one_then _ _ (decided_scripting unit script).one (λ said scripted.
+      one_then _ _ (decided_pacing unit date).one (λ done paced.
+      one_then _ _ (one_leaving (meaning_of unit supply.nexts lists said) date (state_text unit supply.nexts supply.sizes date lists said)) (λ over left.
+      one_pure (Saved unit supply.nexts supply.sizes date lists said)))))))
+
+  one_resuming : (name state : List ℕ) (until : ℕ) (inputs script : Option (List ℕ)) → IsOne (resuming (Some files) name state until inputs script)
+  one_resuming name state until inputs script = one_then _ _ (decided_compiling name).one (λ unit made.
+      one_then _ _ (decided_supplying laws unit until (compiled laws.of_text (Some files) name unit made)).one (λ supply supplied.
+      one_then _ _ (decided_reading files file.State state).one (λ bytes read.
+      one_then _ _ (one_restoring states (form_of (compiled_plan unit supply.nexts supply.sizes until) supply.graphs) bytes) (λ opening restored.
+      one_then _ _ (decided_listing unit inputs).one (λ lists listed.
+      one_then _ _ (decided_scripting unit script).one (λ said scripted.
+      one_then _ _ (decided_pacing unit until).one (λ done paced.
+      one_pure (Resumed unit supply.nexts supply.sizes until opening lists said))))))))
+
+  -- Each command comes to one end at most; and to some, where it is plain: of the others the call itself shows it.
   one_serving : (command : Command) → IsOne (serving (Some files) command)
   one_serving (Run program until inputs script) = (decided_running program until inputs script).one
   one_serving (Check program until) = (decided_checking program until).one
@@ -138,30 +159,31 @@ module _ (laws : PlansDecide) (images : ImagesDecide) (files : Files) where
   one_serving (Exec image until inputs script) = one_executing image until inputs script
   one_serving (Audit program until trace script) = (decided_judging program until trace script).one
   one_serving (Trace program until inputs script) = (decided_tracing program until inputs script).one
+  one_serving (Save program date inputs script) = one_saving program date inputs script
+  one_serving (Resume program state until inputs script) = one_resuming program state until inputs script
 
-  abbrev IsNoExec : Command → Type 0
-  IsNoExec command = (image : List ℕ) (until : ℕ) (inputs script : Option (List ℕ)) → command ≡ Exec image until inputs script → ⊥
-
-  some_serving : (command : Command) → IsNoExec command → IsSome (serving (Some files) command)
-  some_serving (Run program until inputs script) other = (decided_running program until inputs script).some
-  some_serving (Check program until) other = (decided_checking program until).some
-  some_serving (Draw program) other = (decided_drawing program).some
-  some_serving (Make seed) other = inl (Made (made_text seed), refl)
-  some_serving (Trial seed until) other = (decided_trying seed until).some
-  some_serving (Build program) other = (decided_building program).some
-  some_serving (Exec image until inputs script) other = absurd (other image until inputs script refl)
-  some_serving (Audit program until trace script) other = (decided_judging program until trace script).some
-  some_serving (Trace program until inputs script) other = (decided_tracing program until inputs script).some
+  some_serving : (command : Command) → IsPlain command → IsSome (serving (Some files) command)
+  some_serving (Run program until inputs script) plain = (decided_running program until inputs script).some
+  some_serving (Check program until) plain = (decided_checking program until).some
+  some_serving (Draw program) plain = (decided_drawing program).some
+  some_serving (Make seed) plain = inl (Made (made_text seed), refl)
+  some_serving (Trial seed until) plain = (decided_trying seed until).some
+  some_serving (Build program) plain = (decided_building program).some
+  some_serving (Exec image until inputs script) plain = absurd plain
+  some_serving (Audit program until trace script) plain = (decided_judging program until trace script).some
+  some_serving (Trace program until inputs script) plain = (decided_tracing program until inputs script).some
+  some_serving (Save program date inputs script) plain = absurd plain
+  some_serving (Resume program state until inputs script) plain = absurd plain
 
   one_answering : (words : List (List ℕ)) → IsOne (answering words (Some files))
   one_answering words = one_then _ _ (decided_asking words).one (λ command asks. one_serving command)
 
-  -- The words ask for no run of an image.
-  abbrev AskNoExec : List (List ℕ) → Type 0
-  AskNoExec words = (image : List ℕ) (until : ℕ) (inputs script : Option (List ℕ)) → Asks words (Exec image until inputs script) → ⊥
+  -- What the words ask for is plain.
+  abbrev AskPlain : List (List ℕ) → Type 0
+  AskPlain words = (command : Command) → Asks words command → IsPlain command
 
-  some_answering : (words : List (List ℕ)) → AskNoExec words → IsSome (answering words (Some files))
-  some_answering words other = some_then _ _ (decided_asking words).some (λ command asks. some_serving command (λ image until inputs script is. other image until inputs script (subst (Asks words) is asks)))
+  some_answering : (words : List (List ℕ)) → AskPlain words → IsSome (answering words (Some files))
+  some_answering words plain = some_then _ _ (decided_asking words).some (λ command asks. some_serving command (plain command asks))
 
   -- Two answers are the same.
   pub Answers-same : (words : List (List ℕ)) (status other : ℕ) (text another : List ℕ) → Answers words (Some files) status text → Answers words (Some files) other another → (status ≡ other) × (text ≡ another)
@@ -171,8 +193,8 @@ module _ (laws : PlansDecide) (images : ImagesDecide) (files : Files) where
   Answers-same words status other text another (served x p) (served y q) = (refl, ap text_of ((one_answering words).gift x y p q))
 
   -- There is one.
-  pub Answers-some : (words : List (List ℕ)) → AskNoExec words → (status : ℕ) × (text : List ℕ) × Answers words (Some files) status text
-  Answers-some words other = elim (some_answering words other) [
+  pub Answers-some : (words : List (List ℕ)) → AskPlain words → (status : ℕ) × (text : List ℕ) × Answers words (Some files) status text
+  Answers-some words plain = elim (some_answering words plain) [
     | inl done ↦ (0, text_of done.0, served done.0 done.1)
     | inr stop ↦ (status_of stop.0, line_of stop.0, refused stop.0 stop.1)
   ]

@@ -19,9 +19,9 @@ use Rattle.psy_tree.specs.declared.unit.Unit.{Unit as Whole}
 use Rattle.psy_run.specs.declared.refusal.File.{File}
 use Rattle.psy_run.specs.declared.refusal.File.TheVariants.{Inputs, Script}
 use Rattle.psy_run.specs.declared.refusal.Refusal.{Refusal}
-use Rattle.psy_run.specs.declared.refusal.Refusal.TheVariants.{TooLong, Line, Lines, Cycles, LongTrace}
+use Rattle.psy_run.specs.declared.refusal.Refusal.TheVariants.{TooLong, Line, Lines, Cycles, LongTrace, LongState}
 use Rattle.psy_run.specs.Courses.{step}
-use Rattle.psy_run.specs.Steps.{reading, stating, directing, pacing, fitting}
+use Rattle.psy_run.specs.Steps.{reading, stating, directing, pacing, fitting, holding}
 use Rattle.psy_run.proofs.Courses.{IsOne, IsSome, IsDecided, decided_unless}
 
 -- ---- the plan
@@ -121,6 +121,9 @@ decided_directing unit bytes =
 
 pub decided_fitting : (trace : List ℕ) → IsDecided (fitting trace)
 decided_fitting trace = decided_unless (length trace ≤ FILE_BYTES) (FILE_BYTES < length trace) LongTrace (λ few many. omega (arith, few, many)) (most_or_more (length trace) FILE_BYTES)
+
+pub decided_holding : (state : List ℕ) → IsDecided (holding state)
+decided_holding state = decided_unless (length state ≤ FILE_BYTES) (FILE_BYTES < length state) LongState (λ few many. omega (arith, few, many)) (most_or_more (length state) FILE_BYTES)
 
 pub decided_pacing : (unit : Whole) (until : ℕ) → IsDecided (pacing unit until)
 decided_pacing unit until = decided_unless (until * unit.quantum ≤ RUN) (RUN < until * unit.quantum) Cycles (λ few many. omega (arith, few, many)) (most_or_more (until * unit.quantum) RUN)

@@ -1,11 +1,11 @@
--- The run of a plan keeps its bounds: what is known of its code's history holds of its statements' too.
+-- The run of a plan keeps its bounds: what is known of its code's history holds of its statements' too. So it is from date 0 on, and behind a state.
 use Rattle.std.proofs.Common.{◌≡◌, refl, sym, ap, ◌∙◌, subst, ℕ, zero, suc, ◌+◌, ◌*◌, ◌<◌, ◌≤◌, ◌==◌, nat_lt, Bool, true, false, if◌then◌else◌, List, [], ◌∷◌, length, get_or, Option, None, Some, ℤ, arith}
 use Rattle.std.specs.List.{Contains}
 use Rattle.std.proofs.lemmas.Bool.{eqb-true}
 use Rattle.std.proofs.lemmas.List.Elements.{All-contains}
 use Rattle.std.proofs.lemmas.Option.{slice_get-get_or}
 use Rattle.psy_base.specs.declared.limits.TheConstants.{QUEUE}
-use Rattle.psy_history.specs.Actions.{Action, Next, System, next_of}
+use Rattle.psy_history.specs.Actions.{Action, Next, Opening, System, next_of}
 use Rattle.psy_history.specs.History.{action_of, history, with_start}
 use Rattle.psy_meaning.specs.KnownWays.{OfText}
 use Rattle.psy_meaning.specs.QueueSizes.{IsQueueSize}
@@ -13,16 +13,15 @@ use Rattle.psy_meaning.specs.RingSizes.{IsRingSize}
 use Rattle.psy_history.specs.Processors.{processor_at}
 use Rattle.psy_history.specs.Schedule.{Turn, finish, units}
 use Rattle.psy_history.specs.Summary.{most_held, reach}
-use Rattle.psy_history.specs.Compiled.{coded}
+use Rattle.psy_history.specs.Compiled.{coded_behind, stated_behind}
 use Rattle.psy_history.specs.Likeness.{AreLike, IsLike}
 use Rattle.psy_history.specs.Regular.{IsLawful, IsRegular}
 use Rattle.psy_history.specs.Scheduled.{IsFinished, IsSupplied, turns_by, turns_of}
 use Rattle.psy_dates.specs.declared.plan.Plan.{Plan}
 use Rattle.psy_history.specs.declared.told.Script.{Script}
 use Rattle.psy_history.specs.Scripts.{IsScript, order_of, stalls_of}
-use Rattle.psy_run.specs.Bounds.{KeepsBounds}
+use Rattle.psy_run.specs.Bounds.{KeepsBoundsIn}
 use Rattle.psy_run.specs.Planned.{IsStatedPlan}
-use Rattle.psy_run.specs.Services.{meaning_of}
 use Rattle.psy_run.proofs.KeptOrders.{order_each}
 
 -- ---- actions
@@ -60,14 +59,14 @@ module _ (s : System) (lawful : IsLawful s) (date agent : ℕ) (r : Action) wher
 
 -- ---- a run
 
-module _ (plan : Plan) (inputs : List (List ℤ)) (script : Script) (is : IsStatedPlan plan) (its : IsScript plan.unit script) where
-  -- the run by the plan's code
+module _ (plan : Plan) (inputs : List (List ℤ)) (script : Script) (begins goes_on : Opening) (places : ℕ → ℕ) (is : IsStatedPlan plan) (its : IsScript plan.unit script) where
+  -- the run by the plan's code, from where this begins
   abbrev by_code : System
-  by_code = coded plan.unit plan.code plan.nexts (stalls_of script) inputs
+  by_code = coded_behind plan.unit plan.code plan.nexts (stalls_of script) inputs begins
 
-  -- the run by the statements
+  -- the run by the statements, from where these begin
   abbrev by_meaning : System
-  by_meaning = meaning_of plan.unit plan.nexts inputs script
+  by_meaning = stated_behind plan.unit plan.nexts (stalls_of script) inputs goes_on
 
   -- the order of ties
   abbrev ties : ℕ → List ℕ
@@ -98,7 +97,8 @@ module _ (plan : Plan) (inputs : List (List ℤ)) (script : Script) (is : IsStat
     pub finishes : (agent : ℕ) (r : Action) → IsSupplied by_code ties plan.until → Contains (history by_code plan.until agent) r → r.deadline ≤ plan.until → finish r.agent r.number (cycles_of by_code r.agent) ≤ r.deadline * plan.unit.quantum
     pub worked : (agent : ℕ) (r : Action) → IsSupplied by_code ties plan.until → Contains (history by_code (plan.until + 1) agent) r → r.deadline ≤ plan.until → IsFinished by_code ties (r.deadline * plan.unit.quantum) r
     pub reached : (variable size n : ℕ) → IsSupplied by_code ties plan.until → IsRingSize plan.unit (OfText plan.unit) plan.nexts variable size → reach by_code (cycles_of by_code) (history by_code (plan.until + 1)) variable ≡ Some n → n < size
-    pub most : (stream size : ℕ) → stream < length plan.unit.streams → IsQueueSize plan.unit (OfText plan.unit) plan.nexts stream size → size ≤ QUEUE → most_held by_code plan.until stream ≤ size
+    pub most : (stream : ℕ) → stream < length plan.unit.streams → IsQueueSize plan.unit (OfText plan.unit) plan.nexts stream (get_or plan.sizes.queues stream 0)
+        → get_or plan.sizes.queues stream 0 ≤ QUEUE → most_held by_code plan.until stream ≤ places stream
 
   module _ (law : RunLaws) where
     -- the cycles of an action's processor, by both
@@ -135,13 +135,13 @@ module _ (plan : Plan) (inputs : List (List ℤ)) (script : Script) (is : IsStat
         let at = slice_get-get_or plan.sizes.rings variable 0 (subst (λ k. variable < k) (sym is.buffers.rings.count) known) in
         law.reached variable (get_or plan.sizes.rings variable 0) n (supplied law.lawful) (is.buffers.rings.each variable (get_or plan.sizes.rings variable 0) at) (law.reaches variable ∙ far)
 
-    -- no queue holds more than its size
-    queues : (stream : ℕ) → stream < length plan.unit.streams → most_held by_meaning plan.until stream ≤ get_or plan.sizes.queues stream 0
+    -- no queue holds more than its places
+    queues : (stream : ℕ) → stream < length plan.unit.streams → most_held by_meaning plan.until stream ≤ places stream
     queues stream known =
         let within = subst (λ k. stream < k) (sym is.buffers.queues.count) known in
         let at = slice_get-get_or plan.sizes.queues stream 0 within in
         let size = get_or plan.sizes.queues stream 0 in
-        subst (λ n. n ≤ size) (law.held stream) (law.most stream size known (is.buffers.queues.each stream size at) (is.buffers.small_queues stream 0 within))
+        subst (λ n. n ≤ places stream) (law.held stream) (law.most stream known (is.buffers.queues.each stream size at) (is.buffers.small_queues stream 0 within))
 
-    pub keeps_bounds : KeepsBounds by_meaning ties plan.sizes plan.until
+    pub keeps_bounds : KeepsBoundsIn places by_meaning ties plan.sizes plan.until
     keeps_bounds = record { finished = finished; in_time = in_time; rings = rings; queues = queues }

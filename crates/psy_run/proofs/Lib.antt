@@ -7,6 +7,7 @@ mod Courses
 mod CutLemmas
 mod DecidedAnswers
 mod DecidedImages
+mod DecidedStates
 mod DecidedSteps
 mod DecidedTraces
 mod Executions
@@ -21,6 +22,9 @@ mod LongFiles
 mod MeaningText
 mod OwnLemmas
 mod PlanLemmas
+mod Restoring
+mod Saving
+mod SomeWays
 mod TextLemmas
 mod ToldLemmas
 mod TopLemmas

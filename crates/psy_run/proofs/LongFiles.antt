@@ -4,20 +4,24 @@ use Rattle.std.specs.Result.{IsErrAnd}
 use Rattle.psy_door.specs.Growth.{Grew}
 use Rattle.psy_log.specs.Forms.{read_line}
 use Rattle.psy_audit.specs.Traces.{Judged}
+use Rattle.psy_history.specs.Actions.{System}
+use Rattle.psy_kernel.specs.Progress.{Progress}
 use Rattle.psy_make.specs.Text.{made_text}
+use Rattle.psy_snap.specs.Forms.{Form}
 use Rattle.psy_tree.specs.declared.unit.Unit.{Unit as Whole}
 use Rattle.psy_run.specs.declared.refusal.File.{File}
 use Rattle.psy_run.specs.declared.refusal.Refusal.{Refusal}
-use Rattle.psy_run.specs.declared.refusal.Refusal.TheVariants.{Words, TooLong, Cycles, Large, LongTrace}
+use Rattle.psy_run.specs.declared.refusal.Refusal.TheVariants.{Words, TooLong, Cycles, Large, LongTrace, LongState}
 use Rattle.psy_run.specs.declared.refusal.Stop.{Stop}
 use Rattle.psy_run.specs.declared.refusal.Stop.TheVariants as stop
 use Rattle.psy_base.specs.declared.ways.Ways.{Ways as WayLists}
 use Rattle.psy_image.specs.declared.image.Image.{Image as CodeImage}
-use Rattle.psy_run.specs.Answer.{translating, supplying, supplying_by, trying}
+use Rattle.psy_run.specs.Answer.{leaving_of, translating, supplying, supplying_by, trying}
 use Rattle.psy_run.specs.Courses.{Course, in_row}
 use Rattle.psy_run.specs.Outcome.{Halts, halts_refused, halts_unread, halts_memory, Says, TookLimit, IsPastLimit}
 use Rattle.psy_run.specs.Refusals.{status_of, line_of, file_name}
-use Rattle.psy_run.specs.Steps.{auditing, decoding, verifying, imaging, graphing, stating, directing, pacing, fitting}
+use Rattle.psy_run.specs.Services.{meaning_of, saved_run, text_of}
+use Rattle.psy_run.specs.Steps.{auditing, decoding, verifying, imaging, graphing, stating, directing, pacing, fitting, IsBusyAt, holding, resting, restoring}
 
 -- ---- courses that read no file
 
@@ -77,6 +81,25 @@ not_long file e = absurd cc
 
 pub fitting_never_long : (trace : List ℕ) → IsNeverLong (fitting trace)
 fitting_never_long trace file stops = not_long file stops.0
+
+-- A date that isn't quiet is no such refusal, nor is a long state.
+not_busy : (s : System) (date : ℕ) (file : File) → IsBusyAt s date (TooLong file) → ⊥
+not_busy s date file stops = stops
+
+not_long_state : (file : File) → TooLong file ≡ LongState → ⊥
+not_long_state file e = absurd cc
+
+holding_never_long : (state : List ℕ) → IsNeverLong (holding state)
+holding_never_long state file stops = not_long_state file stops.0
+
+pub leaving_never_long : (kernel : Progress) → IsNeverLong (leaving_of kernel)
+leaving_never_long kernel =
+    let s = meaning_of kernel.plan.unit kernel.plan.nexts kernel.inputs kernel.script in
+    let state = text_of (saved_run kernel) in
+    never_long_then (resting s kernel.plan.until) (λ done. holding state) (λ file stops. not_busy s kernel.plan.until file stops) (λ done. holding_never_long state)
+
+pub restoring_never_long : (form : Form) (bytes : List ℕ) → IsNeverLong (restoring form bytes)
+restoring_never_long form bytes file stops = stops
 
 pub trying_never_long : (seed until : ℕ) → IsNeverLong (trying seed until)
 trying_never_long seed until =

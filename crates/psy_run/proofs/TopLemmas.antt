@@ -5,32 +5,35 @@ use Rattle.psy_base.specs.declared.sizes.Sizes.{Sizes}
 use Rattle.psy_door.specs.Faults.{Rose}
 use Rattle.psy_door.specs.Files.{Files}
 use Rattle.psy_door.specs.Growth.{Grew, GrewByFront}
+use Rattle.psy_dates.specs.declared.opening.Opening.{Opening as State}
+use Rattle.psy_history.specs.Actions.{System}
 use Rattle.psy_history.specs.declared.told.Script.{Script as Said}
 use Rattle.psy_kernel.specs.declared.stage.Stage.TheVariants.{Over}
 use Rattle.psy_kernel.specs.Progress.{Progress, stage_of}
 use Rattle.psy_log.specs.Forms.{read_line}
 use Rattle.psy_make.specs.Text.{made_text}
+use Rattle.psy_snap.specs.Forms.{form_of}
 use Rattle.psy_tree.specs.declared.unit.Unit.{Unit as Whole}
 use Rattle.psy_plan.specs.declared.refusal.Refusal.{Refusal as Cause}
 use Rattle.psy_plan.specs.declared.refusal.Refusal.TheVariants.{Lexical, Syntax, Deep, Rule, Many, Nodes, Edges, Ring, Queue, Cells, Infeasible}
 use Rattle.psy_run.specs.declared.refusal.File.{File}
-use Rattle.psy_run.specs.declared.refusal.File.TheVariants.{Program, Image as ImageFile, Inputs, Script, Trace as TraceFile}
+use Rattle.psy_run.specs.declared.refusal.File.TheVariants.{Program, Image as ImageFile, Inputs, Script, Trace as TraceFile, State as StateFile}
 use Rattle.psy_run.specs.declared.refusal.Refusal.{Refusal}
-use Rattle.psy_run.specs.declared.refusal.Refusal.TheVariants.{Words, TooLong, Unplanned, Line, Lines, Cycles, Image, Code, Large, Trace, LongTrace}
+use Rattle.psy_run.specs.declared.refusal.Refusal.TheVariants.{Words, TooLong, Unplanned, Line, Lines, Cycles, Image, Code, Large, Trace, LongTrace, State as BadState, LongState, Busy}
 use Rattle.psy_run.specs.declared.refusal.Stop.{Stop}
 use Rattle.psy_run.specs.declared.refusal.Stop.TheVariants as stop
 use Rattle.psy_run.specs.Answer.{Answers, refused, served, translating, compiling, supplying, supplying_by, listing, scripting, serving, answering}
-use Rattle.psy_run.specs.Asked.{Command, Asks, AskNothing, Run, Check, Graph, Make, Trial, Build, Exec, Audit, Trace as Tracing}
+use Rattle.psy_run.specs.Asked.{Command, Asks, AskNothing, Run, Check, Graph, Make, Trial, Build, Exec, Audit, Trace as Tracing, Save, Resume}
 use Rattle.psy_run.specs.Bounds.{IsBounded}
 use Rattle.psy_run.specs.Courses.{Course, in_row}
 use Rattle.psy_run.specs.Outcome.{Halts, halts_refused, halts_unread, halts_memory, Seen, coming, IsUnread, MayAnswer, may_refuse, may_miss, may_serve, Ends, ends_memory, ends_said, ends_cut, Says}
 use Rattle.psy_run.specs.Refusals.{status_of, line_of, file_name}
-use Rattle.psy_run.specs.Services.{Service, Ran, Checked, Drawn, Made, Tried, Built, Executed, Audited, Traced, HasRun, Leaves, no_inputs, no_script, text_of, trace_by}
-use Rattle.psy_run.specs.Steps.{reading, auditing, judged_by, decoding, verifying, imaging, graphing, costing, pacing, fitting}
+use Rattle.psy_run.specs.Services.{Service, Ran, Checked, Drawn, Made, Tried, Built, Executed, Audited, Traced, Saved, Resumed, HasRun, Leaves, compiled_plan, meaning_of, no_inputs, no_script, state_text, text_of, trace_by}
+use Rattle.psy_run.specs.Steps.{reading, auditing, judged_by, decoding, verifying, imaging, graphing, costing, pacing, fitting, holding, leaving, resting, restoring}
 
 -- ---- the statuses of refusals
 
--- 2 for the words alone, and else 1, 5, 6 or 7
+-- 2 for the words alone, and else 1, 5, 6, 7 or 9
 data IsStatus : Refusal → ℕ → Type 0 where
   of_words : IsStatus Words 2
   of_other : (refusal : Refusal) (status : ℕ) → status ≢ 0 → status ≢ 2 → status ≢ 3 → status ≢ 4 → status ≢ 8 → IsStatus refusal status
@@ -72,6 +75,9 @@ is_status (Code number place) = one (Code number place)
 is_status Large = seven Large
 is_status (Trace number line) = six (Trace number line)
 is_status LongTrace = seven LongTrace
+is_status (BadState number place) = six (BadState number place)
+is_status LongState = seven LongState
+is_status (Busy name) = of_other (Busy name) 9 (λ e. absurd (omega arith)) (λ e. absurd (omega arith)) (λ e. absurd (omega arith)) (λ e. absurd (omega arith)) (λ e. absurd (omega arith))
 
 not_by : (refusal : Refusal) (status answer : ℕ) → IsStatus refusal status → answer ≢ 2 → (answer ≡ 0) ⊎ ((answer ≡ 3) ⊎ ((answer ≡ 4) ⊎ (answer ≡ 8))) → status ≢ answer
 not_by _ _ answer of_words two which e = two (sym e)
@@ -201,6 +207,12 @@ pacing_never unit until stops = apart Cycles (λ e. absurd (omega arith)) stops.
 fitting_never : (trace : List ℕ) → Never (fitting trace)
 fitting_never trace stops = apart LongTrace (λ e. absurd (omega arith)) stops.0
 
+holding_never : (state : List ℕ) → Never (holding state)
+holding_never state stops = apart LongState (λ e. absurd (omega arith)) stops.0
+
+leaving_never : (s : System) (date : ℕ) (state : List ℕ) → Never (leaving s date state)
+leaving_never s date state = never_then (resting s date) (λ done. holding state) (λ stops. stops) (λ done. holding_never state)
+
 serving_never : (files : Option Files) (command : Command) → Never (serving files command)
 serving_never files (Run name until inputs script) =
     never_then (compiling files name) _ (compiling_never files name)
@@ -240,6 +252,21 @@ serving_never files (Tracing name until inputs script) =
     (λ lists. never_then (scripting files unit script) _ (scripting_never files unit script)
     (λ said. never_then (pacing unit until) _ (pacing_never unit until)
     (λ done. never_then (fitting (trace_by unit supply.nexts supply.sizes until lists said)) _ (fitting_never (trace_by unit supply.nexts supply.sizes until lists said)) (λ told stops. stops))))))
+serving_never files (Save name date inputs script) =
+    never_then (compiling files name) _ (compiling_never files name)
+    (λ unit. never_then (supplying unit date) _ (supplying_never unit date)
+    (λ supply. never_then (listing files unit inputs) _ (listing_never files unit inputs)
+    (λ lists. never_then (scripting files unit script) _ (scripting_never files unit script)
+    (λ said. never_then (pacing unit date) _ (pacing_never unit date)
+    (λ done. never_then (leaving (meaning_of unit supply.nexts lists said) date (state_text unit supply.nexts supply.sizes date lists said)) _
+    (leaving_never (meaning_of unit supply.nexts lists said) date (state_text unit supply.nexts supply.sizes date lists said)) (λ left stops. stops))))))
+serving_never files (Resume name state until inputs script) =
+    never_then (compiling files name) _ (compiling_never files name)
+    (λ unit. never_then (supplying unit until) _ (supplying_never unit until)
+    (λ supply. never_then (reading files StateFile state) _ (λ stops. apart (TooLong StateFile) (λ e. absurd (omega arith)) stops.0)
+    (λ bytes. never_then (restoring (form_of (compiled_plan unit supply.nexts supply.sizes until) supply.graphs) bytes) _ (λ stops. stops)
+    (λ opening. never_then (listing files unit inputs) _ (listing_never files unit inputs)
+    (λ lists. never_then (scripting files unit script) _ (scripting_never files unit script) (λ said. never_then (pacing unit until) _ (pacing_never unit until) (λ done stops. stops)))))))
 
 nothing_asked : (words : List (List ℕ)) (files : Option Files) → (answering words files).stops Words → AskNothing words
 unfolding in_row
@@ -290,23 +317,25 @@ ends_left seen old now before after _ _ (ends_said _ _ _ (may_serve done other g
 ends_left seen old now before after _ _ (ends_cut status text left may rose front) zero = absurd (omega (arith, zero))
 
 -- A kernel is left by a run alone, and is over.
-over_at : (unit : Whole) (nexts : List (List (List ℕ))) (sizes : Sizes) (until : ℕ) (inputs : List (List ℤ)) (script : Said) (p : Progress) → HasRun unit nexts sizes until inputs script p → stage_of p ≡ Over
-over_at unit nexts sizes until inputs script p ran = by (p.dates == p.plan.until + 1) refl
+over_at : (unit : Whole) (nexts : List (List (List ℕ))) (sizes : Sizes) (until : ℕ) (inputs : List (List ℤ)) (script : Said) (opening : Option State) (p : Progress) → HasRun unit nexts sizes until inputs script opening p → stage_of p ≡ Over
+over_at unit nexts sizes until inputs script opening p ran = by (p.dates == p.plan.until + 1) refl
   where
     by : (t : Bool) → (p.dates == p.plan.until + 1) ≡ t → stage_of p ≡ Over
     by true e = rw e refl
     by false e = let dates = ran.dates in let last = ran.its_until in grind (arith, nat_tests)
 
 over_of : (done : Service) (left : Option Progress) → Leaves done left → IfSome left (λ kernel. stage_of kernel ≡ Over)
-over_of (Ran unit nexts sizes until inputs script) left (p, is, plan, ran) = subst (λ l. IfSome l (λ kernel. stage_of kernel ≡ Over)) (sym is) (over_at unit nexts sizes until inputs script p ran)
-over_of (Tried unit nexts sizes until) left (p, is, plan, ran) = subst (λ l. IfSome l (λ kernel. stage_of kernel ≡ Over)) (sym is) (over_at unit nexts sizes until (no_inputs unit) no_script p ran)
-over_of (Traced unit nexts sizes until inputs script) left (p, is, plan, ran) = subst (λ l. IfSome l (λ kernel. stage_of kernel ≡ Over)) (sym is) (over_at unit nexts sizes until inputs script p ran)
+over_of (Ran unit nexts sizes until inputs script) left (p, is, plan, ran) = subst (λ l. IfSome l (λ kernel. stage_of kernel ≡ Over)) (sym is) (over_at unit nexts sizes until inputs script None p ran)
+over_of (Tried unit nexts sizes until) left (p, is, plan, ran) = subst (λ l. IfSome l (λ kernel. stage_of kernel ≡ Over)) (sym is) (over_at unit nexts sizes until (no_inputs unit) no_script None p ran)
+over_of (Traced unit nexts sizes until inputs script) left (p, is, plan, ran) = subst (λ l. IfSome l (λ kernel. stage_of kernel ≡ Over)) (sym is) (over_at unit nexts sizes until inputs script None p ran)
+over_of (Saved unit nexts sizes date inputs script) left (p, is, plan, ran) = subst (λ l. IfSome l (λ kernel. stage_of kernel ≡ Over)) (sym is) (over_at unit nexts sizes date inputs script None p ran)
+over_of (Resumed unit nexts sizes until state inputs script) left (p, is, plan, ran) = subst (λ l. IfSome l (λ kernel. stage_of kernel ≡ Over)) (sym is) (over_at unit nexts sizes until inputs script (Some state) p ran)
 over_of (Checked unit sizes lines extent) left is = subst (λ l. IfSome l (λ kernel. stage_of kernel ≡ Over)) (sym is) tt
 over_of (Drawn unit graphs costs) left is = subst (λ l. IfSome l (λ kernel. stage_of kernel ≡ Over)) (sym is) tt
 over_of (Made text) left is = subst (λ l. IfSome l (λ kernel. stage_of kernel ≡ Over)) (sym is) tt
 over_of (Built image) left is = subst (λ l. IfSome l (λ kernel. stage_of kernel ≡ Over)) (sym is) tt
 over_of (Audited acts looks) left is = subst (λ l. IfSome l (λ kernel. stage_of kernel ≡ Over)) (sym is) tt
-over_of (Executed unit code nexts sizes until inputs script) left (p, is, plan, coded, ran) = subst (λ l. IfSome l (λ kernel. stage_of kernel ≡ Over)) (sym is) (over_at unit nexts sizes until inputs script p ran)
+over_of (Executed unit code nexts sizes until inputs script) left (p, is, plan, coded, ran) = subst (λ l. IfSome l (λ kernel. stage_of kernel ≡ Over)) (sym is) (over_at unit nexts sizes until inputs script None p ran)
 
 pub ends_over : (seen : Seen) (old now : Option (List ℕ)) (before after answer : ℕ) (left : Option Progress) → Ends seen old now before after answer left → IfSome left (λ kernel. stage_of kernel ≡ Over)
 ends_over seen old now before after _ _ (ends_memory command asks grew) = tt

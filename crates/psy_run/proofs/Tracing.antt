@@ -1,18 +1,17 @@
--- The trace of a run, step by step: it stops where the run does, or at its length, and else gives the trace.
-use Rattle.std.proofs.Common.{◌≡◌, ap, subst, sym, ℕ, ◌≤◌, List, length, Option, inl, inr, Result, Ok, Err, IfOk, IfErr}
+-- A run and one step more, as for its trace and its state: it stops where the run does, or at that step, and else gives what is told of the run.
+use Rattle.std.proofs.Common.{◌≡◌, ap, subst, sym, ℕ, List, Option, inl, inr, Result, Ok, Err, IfOk, IfErr}
 use Rattle.std.specs.Prelude.{OnOk}
-use Rattle.psy_base.specs.declared.limits.TheConstants.{FILE_BYTES}
 use Rattle.psy_door.specs.Files.{Files}
 use Rattle.psy_kernel.specs.Progress.{Progress}
 use Rattle.psy_kernel.specs.Runs.{ended}
 use Rattle.psy_run.specs.declared.refusal.Stop.{Stop}
 use Rattle.psy_run.specs.declared.served.Served.{Served}
 use Rattle.psy_run.specs.declared.served.Served.TheVariants as served
-use Rattle.psy_run.specs.Answer.{running, tracing}
-use Rattle.psy_run.specs.Courses.{Course, in_row, pure}
+use Rattle.psy_run.specs.Answer.{compiling, listing, running, scripting, supplying}
+use Rattle.psy_run.specs.Courses.{Course, in_row, pure, ◌>>=◌}
 use Rattle.psy_run.specs.Outcome.{CanServe, HasTold, Halts, halts_refused, halts_unread, halts_memory}
-use Rattle.psy_run.specs.Services.{Service, Ran, Traced, service_of, text_of, traced_run}
-use Rattle.psy_run.specs.Steps.{fitting}
+use Rattle.psy_run.specs.Services.{Service, Ran, Saved, Traced, meaning_of, saved_run, service_of, state_text, text_of, trace_by, traced_run}
+use Rattle.psy_run.specs.Steps.{fitting, leaving, pacing}
 use Rattle.psy_run.proofs.Courses.{halts_apart, halts_first, halts_later}
 
 -- ---- a run, and the same with other steps behind it
@@ -34,59 +33,97 @@ halts_pure x c failed before after _ halts_memory = halts_memory
 -- ---- the kernel
 
 -- A kernel that ran, with the trace of its run, can be served.
-pub can_tell : (kernel now : Progress) (text : List ℕ) → CanServe (served.Ran kernel) → now ≡ ended kernel → text ≡ text_of (traced_run kernel) → HasTold now text
+pub can_tell : (kernel now : Progress) (text : List ℕ) → CanServe (served.Ran kernel) → now ≡ ended kernel → text ≡ text_of (traced_run kernel) → HasTold traced_run now text
 can_tell kernel now text (is, plan, are, script) over told =
-    let has : HasTold (ended kernel) text = record { over = ap ended is; planned = plan; its_inputs = are; its_script = script; told = told } in
-    subst (λ p. HasTold p text) (sym over) has
+    let has : HasTold traced_run (ended kernel) text = record { over = ap ended is; planned = plan; its_inputs = are; its_script = script; told = told } in
+    subst (λ p. HasTold traced_run p text) (sym over) has
+
+-- So can one with the state that it leaves.
+pub can_save : (kernel now : Progress) (text : List ℕ) → CanServe (served.Ran kernel) → now ≡ ended kernel → text ≡ text_of (saved_run kernel) → HasTold saved_run now text
+can_save kernel now text (is, plan, are, script) over told =
+    let has : HasTold saved_run (ended kernel) text = record { over = ap ended is; planned = plan; its_inputs = are; its_script = script; told = told } in
+    subst (λ p. HasTold saved_run p text) (sym over) has
 
 -- The trace of it is that of the kernel as it was.
 pub told_now : (kernel now : Progress) → now ≡ ended kernel → traced_run now ≡ traced_run kernel
 told_now kernel now over = ap traced_run over
 
--- ---- a trace, step by step
+-- And its state
+pub saved_now : (kernel now : Progress) → now ≡ ended kernel → saved_run now ≡ saved_run kernel
+saved_now kernel now over = ap saved_run over
 
--- What a run comes to, as its trace
-abbrev told_by : Service → Service
-told_by (Ran unit nexts sizes until inputs script) = Traced unit nexts sizes until inputs script
-told_by service = service
+-- ---- a run and one step more, step by step
 
-module _ (files : Option Files) (name : List ℕ) (until : ℕ) (inputs script : Option (List ℕ)) where
-  -- The trace stops where the run does,
-  pub trace_unready : (failed : List ℕ) (before after : ℕ) (stop : Stop) → Halts (running files name until inputs script) failed before after stop → Halts (tracing files name until inputs script) failed before after stop
-  trace_unready failed before after stop =
+-- A service of a run, as another of the same run
+module _ (by : Service → Service) (more : Service → Course (Unit {0})) (files : Option Files) (name : List ℕ) (until : ℕ) (inputs script : Option (List ℕ)) where
+  -- The steps of a run, then one more, which may look at what is run
+  abbrev pub and_more : Course Service
+  and_more = do
+    unit ← compiling files name
+    supply ← supplying unit until
+    lists ← listing files unit inputs
+    said ← scripting files unit script
+    _ ← pacing unit until
+    _ ← more (Ran unit supply.nexts supply.sizes until lists said)
+    pure (by (Ran unit supply.nexts supply.sizes until lists said))
+
+  -- It stops where the run does,
+  pub more_unready : (failed : List ℕ) (before after : ℕ) (stop : Stop) → Halts (running files name until inputs script) failed before after stop → Halts and_more failed before after stop
+  more_unready failed before after stop =
       halts_alike _ _ _ failed before after stop (λ unit. halts_alike _ _ _ failed before after stop (λ supply. halts_alike _ _ _ failed before after stop (λ lists.
       halts_alike _ _ _ failed before after stop (λ said. halts_alike _ _ _ failed before after stop (λ paced. halts_pure _ _ failed before after stop)))))
 
-  module _ (kernel : Progress) (ran : (running files name until inputs script).gives (service_of (served.Ran kernel))) where
-    -- or at its length,
-    pub trace_unfit : (failed : List ℕ) (before after : ℕ) (stop : Stop) → Halts (fitting (text_of (traced_run kernel))) failed before after stop → Halts (tracing files name until inputs script) failed before after stop
+  module _ (ran : Service) (gives : (running files name until inputs script).gives ran) where
+    -- or at that step,
+    pub more_unfit : (failed : List ℕ) (before after : ℕ) (stop : Stop) → Halts (more ran) failed before after stop → Halts and_more failed before after stop
     unfolding in_row
-    trace_unfit failed before after stop halts =
-        let (unit, made, (supply, supplied, (lists, listed, (said, scripted, (paced, few, is))))) = ran in
-        let fit = subst (λ done. Halts (fitting (text_of done)) failed before after stop) (ap told_by is) halts in
+    more_unfit failed before after stop halts =
+        let (unit, made, (supply, supplied, (lists, listed, (said, scripted, (paced, few, is))))) = gives in
+        let fit = subst (λ done. Halts (more done) failed before after stop) is halts in
         halts_later _ _ failed before after unit stop made (halts_later _ _ failed before after supply stop supplied (halts_later _ _ failed before after lists stop listed
         (halts_later _ _ failed before after said stop scripted (halts_later _ _ failed before after paced stop few (halts_first _ _ failed before after stop fit)))))
 
-    -- or it gives the trace.
-    pub trace_gives : length (text_of (traced_run kernel)) ≤ FILE_BYTES → (tracing files name until inputs script).gives (traced_run kernel)
+    -- or it gives the other service.
+    pub more_gives : (more ran).gives tt → and_more.gives (by ran)
     unfolding in_row
-    trace_gives short =
-        let (unit, made, (supply, supplied, (lists, listed, (said, scripted, (paced, few, is))))) = ran in
-        let same = ap told_by is in
-        (unit, made, (supply, supplied, (lists, listed, (said, scripted, (paced, few, (tt, subst (λ done. length (text_of done) ≤ FILE_BYTES) same short, same))))))
+    more_gives fits =
+        let (unit, made, (supply, supplied, (lists, listed, (said, scripted, (paced, few, is))))) = gives in
+        (unit, made, (supply, supplied, (lists, listed, (said, scripted, (paced, few, (tt, subst (λ done. (more done).gives tt) is fits, ap by is))))))
 
     -- So does the last of its steps.
     module _ (result : Result Served Stop) where
-      pub trace_told : IfOk result (λ done. service_of done ≡ traced_run kernel) → OnOk result (length (text_of (traced_run kernel)) ≤ FILE_BYTES) → IfOk result (λ done. (tracing files name until inputs script).gives (service_of done))
-      trace_told = by result
+      pub more_told : IfOk result (λ done. service_of done ≡ by ran) → OnOk result ((more ran).gives tt) → IfOk result (λ done. and_more.gives (service_of done))
+      more_told = by_result result
         where
-          by : (r : Result Served Stop) → IfOk r (λ done. service_of done ≡ traced_run kernel) → OnOk r (length (text_of (traced_run kernel)) ≤ FILE_BYTES) → IfOk r (λ done. (tracing files name until inputs script).gives (service_of done))
-          by (Ok done) is fits = subst (tracing files name until inputs script).gives (sym is) (trace_gives fits)
-          by (Err stop) is fits = tt
+          by_result : (r : Result Served Stop) → IfOk r (λ done. service_of done ≡ by ran) → OnOk r ((more ran).gives tt) → IfOk r (λ done. and_more.gives (service_of done))
+          by_result (Ok done) is fits = subst and_more.gives (sym is) (more_gives fits)
+          by_result (Err stop) is fits = tt
 
-      pub trace_untold : (failed : List ℕ) (before after : ℕ) → IfErr result (Halts (fitting (text_of (traced_run kernel))) failed before after) → IfErr result (Halts (tracing files name until inputs script) failed before after)
-      trace_untold failed before after = by result
+      pub more_untold : (failed : List ℕ) (before after : ℕ) → IfErr result (Halts (more ran) failed before after) → IfErr result (Halts and_more failed before after)
+      more_untold failed before after = by_result result
         where
-          by : (r : Result Served Stop) → IfErr r (Halts (fitting (text_of (traced_run kernel))) failed before after) → IfErr r (Halts (tracing files name until inputs script) failed before after)
-          by (Ok done) halts = tt
-          by (Err stop) halts = trace_unfit failed before after stop halts
+          by_result : (r : Result Served Stop) → IfErr r (Halts (more ran) failed before after) → IfErr r (Halts and_more failed before after)
+          by_result (Ok done) halts = tt
+          by_result (Err stop) halts = more_unfit failed before after stop halts
+
+-- ---- traces and states
+
+-- What a run comes to as its trace
+abbrev pub as_trace : Service → Service
+as_trace (Ran unit nexts sizes until inputs script) = Traced unit nexts sizes until inputs script
+as_trace service = service
+
+-- What is asked of the trace
+abbrev pub fits_trace : Service → Course (Unit {0})
+fits_trace (Ran unit nexts sizes until inputs script) = fitting (trace_by unit nexts sizes until inputs script)
+fits_trace service = pure tt
+
+-- What it comes to, as the state that it leaves
+abbrev pub as_state : Service → Service
+as_state (Ran unit nexts sizes until inputs script) = Saved unit nexts sizes until inputs script
+as_state service = service
+
+-- What is asked of the state
+abbrev pub leaves_state : Service → Course (Unit {0})
+leaves_state (Ran unit nexts sizes until inputs script) = leaving (meaning_of unit nexts inputs script) until (state_text unit nexts sizes until inputs script)
+leaves_state service = pure tt

@@ -4,17 +4,21 @@ use Rattle.psy_base.specs.declared.ways.Ways.{Ways as WayLists}
 use Rattle.psy_door.specs.Files.{Files}
 use Rattle.psy_tree.specs.declared.unit.Unit.{Unit as Whole}
 use Rattle.psy_history.specs.declared.told.Script.{Script}
+use Rattle.psy_kernel.specs.Progress.{Progress}
 use Rattle.psy_make.specs.Text.{made_text}
 use Rattle.psy_plan.specs.Programs as programs
 use Rattle.psy_plan.specs.Supplies as supplies
 use Rattle.psy_plan.specs.Supplies.{Supply}
+use Rattle.psy_snap.specs.Forms.{form_of}
 use Rattle.psy_run.specs.declared.refusal.File.TheVariants as file
 use Rattle.psy_run.specs.declared.refusal.Refusal.{Refusal}
-use Rattle.psy_run.specs.Asked.{Command, Run, Check, Graph as Draw, Make, Trial, Build, Exec, Audit, Trace}
+use Rattle.psy_run.specs.Asked.{Command, Run, Check, Graph as Draw, Make, Trial, Build, Exec, Audit, Trace, Save, Resume}
 use Rattle.psy_run.specs.Courses.{Course, planned, pure, ◌>>=◌}
 use Rattle.psy_run.specs.Refusals.{status_of, line_of}
-use Rattle.psy_run.specs.Services.{Service, Ran, Checked, Drawn, Made, Tried, Built, Executed, Audited, Traced, no_inputs, no_script, text_of, trace_by}
+use Rattle.psy_run.specs.Services.{Service, Ran, Checked, Drawn, Made, Tried, Built, Executed, Audited, Traced, Saved, Resumed}
+use Rattle.psy_run.specs.Services.{compiled_plan, meaning_of, no_inputs, no_script, saved_run, state_text, text_of, trace_by}
 use Rattle.psy_run.specs.Steps.{asking, reading, auditing, judged_by, decoding, verifying, imaging, graphing, costing, pacing, stating, directing, fitting}
+use Rattle.psy_run.specs.Steps.{leaving, restoring}
 
 -- ---- the commands
 
@@ -128,6 +132,34 @@ tracing files name until inputs script = do
   _ ← fitting (trace_by unit supply.nexts supply.sizes until lists said)
   pure (Traced unit supply.nexts supply.sizes until lists said)
 
+-- What is asked of a kernel's run that is to be saved
+abbrev pub leaving_of : Progress → Course (Unit {0})
+leaving_of kernel =
+    leaving (meaning_of kernel.plan.unit kernel.plan.nexts kernel.inputs kernel.script) kernel.plan.until (text_of (saved_run kernel))
+
+-- `save PROG DATE [INPUTS [SCRIPT]]`: the steps of `run`, then that the date is quiet, and the length of the state
+abbrev pub saving : Option Files → List ℕ → ℕ → Option (List ℕ) → Option (List ℕ) → Course Service
+saving files name date inputs script = do
+  unit ← compiling files name
+  supply ← supplying unit date
+  lists ← listing files unit inputs
+  said ← scripting files unit script
+  _ ← pacing unit date
+  _ ← leaving (meaning_of unit supply.nexts lists said) date (state_text unit supply.nexts supply.sizes date lists said)
+  pure (Saved unit supply.nexts supply.sizes date lists said)
+
+-- `resume PROG STATE UNTIL [INPUTS [SCRIPT]]`
+abbrev pub resuming : Option Files → List ℕ → List ℕ → ℕ → Option (List ℕ) → Option (List ℕ) → Course Service
+resuming files name state until inputs script = do
+  unit ← compiling files name
+  supply ← supplying unit until
+  bytes ← reading files file.State state
+  opening ← restoring (form_of (compiled_plan unit supply.nexts supply.sizes until) supply.graphs) bytes
+  lists ← listing files unit inputs
+  said ← scripting files unit script
+  _ ← pacing unit until
+  pure (Resumed unit supply.nexts supply.sizes until opening lists said)
+
 -- A run of the program of a text, without inputs and script, however many cycles it has
 abbrev pub planning : List ℕ → ℕ → Course Service
 planning bytes until = do
@@ -146,6 +178,8 @@ serving files (Build program) = building files program
 serving files (Exec image until inputs script) = executing files image until inputs script
 serving files (Audit program until trace script) = judging files program until trace script
 serving files (Trace program until inputs script) = tracing files program until inputs script
+serving files (Save program date inputs script) = saving files program date inputs script
+serving files (Resume program state until inputs script) = resuming files program state until inputs script
 
 -- The words: what they ask for, then that
 abbrev pub answering : List (List ℕ) → Option Files → Course Service

@@ -1,5 +1,5 @@
 -- What the words of the command line ask for.
-use Rattle.std.specs.Prelude.{◌≡◌, ℕ, ◌^◌, ◌<◌, ◌≤◌, List, [], ◌∷◌, Option, None, Some, codes, option_copied}
+use Rattle.std.specs.Prelude.{◌≡◌, ℕ, ◌^◌, ◌<◌, ◌≤◌, List, [], ◌∷◌, Option, None, Some, codes, option_copied, ⊤}
 use Rattle.psy_base.specs.declared.limits.TheConstants.{UNTIL}
 use Rattle.psy_text.specs.Words.{number_of}
 use Rattle.psy_run.specs.declared.asked.Command.{Command as Read}
@@ -26,9 +26,12 @@ pub data Command : Type 0 where
   Exec : (image : List ℕ) (until : ℕ) (inputs script : Option (List ℕ)) → Command
   Audit : (program : List ℕ) (until : ℕ) (trace : List ℕ) (script : Option (List ℕ)) → Command
   Trace : (program : List ℕ) (until : ℕ) (inputs script : Option (List ℕ)) → Command
+  Save : (program : List ℕ) (date : ℕ) (inputs script : Option (List ℕ)) → Command
+  Resume : (program state : List ℕ) (until : ℕ) (inputs script : Option (List ℕ)) → Command
 
 -- The words ask for a command: `run PROG UNTIL [INPUTS [SCRIPT]]`, `check PROG UNTIL`, `graph PROG`, `make SEED`, `trial SEED UNTIL`, `build PROG`,
--- `exec IMAGE UNTIL [INPUTS [SCRIPT]]`, `audit PROG UNTIL TRACE [SCRIPT]` or `trace PROG UNTIL [INPUTS [SCRIPT]]`
+-- `exec IMAGE UNTIL [INPUTS [SCRIPT]]`, `audit PROG UNTIL TRACE [SCRIPT]`, `trace PROG UNTIL [INPUTS [SCRIPT]]`, `save PROG DATE [INPUTS [SCRIPT]]` or
+-- `resume PROG STATE UNTIL [INPUTS [SCRIPT]]`
 pub data Asks (words : List (List ℕ)) : Command → Type 0 where
   asks_run : (program date : List ℕ) (until : ℕ) → words ≡ codes "run" ∷ program ∷ date ∷ [] → IsDate date until → Asks words (Run program until None None)
   asks_run_with_inputs : (program date inputs : List ℕ) (until : ℕ) → words ≡ codes "run" ∷ program ∷ date ∷ inputs ∷ [] → IsDate date until
@@ -56,6 +59,25 @@ pub data Asks (words : List (List ℕ)) : Command → Type 0 where
       → Asks words (Trace program until (Some inputs) None)
   asks_trace_with_script : (program date inputs script : List ℕ) (until : ℕ) → words ≡ codes "trace" ∷ program ∷ date ∷ inputs ∷ script ∷ []
       → IsDate date until → Asks words (Trace program until (Some inputs) (Some script))
+  asks_save : (program word : List ℕ) (date : ℕ) → words ≡ codes "save" ∷ program ∷ word ∷ [] → IsDate word date → Asks words (Save program date None None)
+  asks_save_with_inputs : (program word inputs : List ℕ) (date : ℕ) → words ≡ codes "save" ∷ program ∷ word ∷ inputs ∷ [] → IsDate word date
+      → Asks words (Save program date (Some inputs) None)
+  asks_save_with_script : (program word inputs script : List ℕ) (date : ℕ) → words ≡ codes "save" ∷ program ∷ word ∷ inputs ∷ script ∷ []
+      → IsDate word date → Asks words (Save program date (Some inputs) (Some script))
+  asks_resume : (program state date : List ℕ) (until : ℕ) → words ≡ codes "resume" ∷ program ∷ state ∷ date ∷ [] → IsDate date until
+      → Asks words (Resume program state until None None)
+  asks_resume_with_inputs : (program state date inputs : List ℕ) (until : ℕ) → words ≡ codes "resume" ∷ program ∷ state ∷ date ∷ inputs ∷ []
+      → IsDate date until → Asks words (Resume program state until (Some inputs) None)
+  asks_resume_with_script : (program state date inputs script : List ℕ) (until : ℕ)
+      → words ≡ codes "resume" ∷ program ∷ state ∷ date ∷ inputs ∷ script ∷ [] → IsDate date until
+      → Asks words (Resume program state until (Some inputs) (Some script))
+
+-- A command, unless what comes of it is found by the call alone: the verdict on an image, and the state of a run
+abbrev pub IsPlain : Command → Type 0
+IsPlain (Exec image until inputs script) = ⊥
+IsPlain (Save program date inputs script) = ⊥
+IsPlain (Resume program state until inputs script) = ⊥
+IsPlain command = ⊤
 
 -- The words are of no listed form
 abbrev pub AskNothing : List (List ℕ) → Type 0
@@ -72,3 +94,5 @@ asked_by (read.Build program) = Build program.now
 asked_by (read.Exec image until inputs script) = Exec image.now until (option_copied inputs) (option_copied script)
 asked_by (read.Audit program until trace script) = Audit program.now until trace.now (option_copied script)
 asked_by (read.Trace program until inputs script) = Trace program.now until (option_copied inputs) (option_copied script)
+asked_by (read.Save program date inputs script) = Save program.now date (option_copied inputs) (option_copied script)
+asked_by (read.Resume program state until inputs script) = Resume program.now state.now until (option_copied inputs) (option_copied script)

@@ -1,15 +1,16 @@
 -- Where a write failed: the lines before the one that failed were written, and a front of it.
 use Rattle.std.specs.Prelude.{◌≡◌, ℕ, ◌+◌, ◌<◌, List, ◌∷◌, ◌++◌, length, take, Option, Result, MatchResult}
-use Rattle.std.specs.List.{flat_map, range_with_len}
+use Rattle.std.specs.List.{flat_map}
 use Rattle.psy_base.specs.declared.sizes.Sizes.{Sizes}
 use Rattle.psy_door.specs.Growth.{Grew}
 use Rattle.psy_history.specs.Actions.{System}
+use Rattle.psy_history.specs.Summary.{dates_from}
 use Rattle.psy_log.specs.declared.write.WriteFault.{WriteFault}
 use Rattle.psy_kernel.specs.Texts.{lines_of, summary_of, text_of}
 
--- The lines of the first dates, of which there are so many: 0, 1 and so on
+-- The lines of the dates below this one: 0, 1 and so on, behind those that were done before
 abbrev pub log_lines : System → ℕ → List (List ℕ)
-log_lines s dates = flat_map (lines_of s) (range_with_len 0 dates)
+log_lines s dates = flat_map (lines_of s) (dates_from s.opening.dates dates)
 
 -- The lines of a run up to a date: those of each date, then the summary
 abbrev pub run_lines : System → (ℕ → List ℕ) → Sizes → ℕ → List (List ℕ)

@@ -1,15 +1,17 @@
 -- How a call of the top ends. The counts of faults are those of the shelf and the sink before and after it.
-use Rattle.std.specs.Prelude.{◌≡◌, ◌≢◌, ◌⊎◌, ℕ, ◌+◌, List, [], Option, None, ⊤}
+use Rattle.std.specs.Prelude.{◌≡◌, ◌≢◌, ◌⊎◌, ℕ, ◌+◌, List, [], Option, None, Some, ⊤}
 use Rattle.std.specs.List.{All}
 use Rattle.psy_base.specs.declared.limits.TheConstants.{FILE_BYTES}
-use Rattle.psy_dates.specs.Plans.{IsPlan}
+use Rattle.psy_dates.specs.Beginnings.{behind}
+use Rattle.psy_dates.specs.declared.opening.Opening.{Opening as State}
+use Rattle.psy_dates.specs.Plans.{IsPlan, IsSoundFor}
 use Rattle.psy_door.specs.Faults.{Rose}
 use Rattle.psy_door.specs.Files.{Files}
 use Rattle.psy_door.specs.Growth.{Grew, GrewByFront}
 use Rattle.psy_history.specs.Compiled.{AreInputs}
-use Rattle.psy_kernel.specs.Progress.{Progress, booted}
+use Rattle.psy_kernel.specs.Progress.{Progress, began, booted}
 use Rattle.psy_kernel.specs.Runs.{ended}
-use Rattle.psy_history.specs.Scripts.{IsScript}
+use Rattle.psy_history.specs.Scripts.{IsScript, stalls_of}
 use Rattle.psy_log.specs.Forms.{read_line}
 use Rattle.psy_run.specs.declared.refusal.File.{File}
 use Rattle.psy_run.specs.declared.refusal.Refusal.{Refusal}
@@ -26,7 +28,7 @@ use Rattle.psy_run.specs.Bounds.{IsBounded}
 use Rattle.psy_run.specs.Courses.{Course}
 use Rattle.psy_run.specs.Planned.{IsPlanned}
 use Rattle.psy_run.specs.Refusals.{status_of, line_of, file_name}
-use Rattle.psy_run.specs.Services.{Service, Leaves, no_inputs, no_script, text_of, traced_run}
+use Rattle.psy_run.specs.Services.{Service, Leaves, no_inputs, no_script, saved_run, text_of, traced_run}
 
 -- A course was left before its end: a step of it refused, or the read of the file that it had come to failed, or memory ran out.
 pub data Halts {X : Type 0} (course : Course X) (failed : List ℕ) (before after : ℕ) : Stop → Type 0 where
@@ -87,16 +89,25 @@ pub data Ends (seen : Seen) (old now : Option (List ℕ)) (before after : ℕ) :
 abbrev pub Says : Option (List ℕ) → Option (List ℕ) → ℕ → ℕ → ℕ → ℕ → List ℕ → Type 0
 Says old now before after answer status text = ((answer ≡ status) × Grew old now text) ⊎ ((answer ≡ 4) × Rose before after × GrewByFront old now text)
 
--- A kernel ran to its end, with inputs and a script of its program, and the text is the trace of that run.
-pub record HasTold (kernel : Progress) (text : List ℕ) : Type 0 where
+-- A kernel ran to its end, with inputs and a script of its program, and the text is what is told of that run.
+pub record HasTold (telling : Progress → Service) (kernel : Progress) (text : List ℕ) : Type 0 where
   pub over : kernel ≡ ended (booted kernel.plan kernel.inputs kernel.script)
   pub planned : IsPlanned kernel.plan
   pub its_inputs : AreInputs kernel.plan.unit kernel.inputs
   pub its_script : IsScript kernel.plan.unit kernel.script
-  pub told : text ≡ text_of (traced_run kernel)
+  pub told : text ≡ text_of (telling kernel)
 
--- What is served can be: a kernel was just booted, with inputs and a script of its program, or without; or it ran to its end, with its trace; and the names
--- of a unit are short.
+-- A kernel was just opened behind a state that runs of its plan may go on from, with inputs and a script of its program.
+pub record CanGoOn (kernel : Progress) : Type 0 where
+  pub state : State
+  pub opened : kernel ≡ began kernel.plan kernel.inputs kernel.script (Some state)
+  pub planned : IsPlanned kernel.plan
+  pub its_inputs : AreInputs kernel.plan.unit kernel.inputs
+  pub its_script : IsScript kernel.plan.unit kernel.script
+  pub sound : IsSoundFor kernel.plan (behind kernel.plan state) kernel.inputs (stalls_of kernel.script)
+
+-- What is served can be: a kernel was just booted or opened, with inputs and a script of its program, or booted without; or it ran to its end, with what
+-- is told of that run; and the names of a unit are short.
 abbrev pub CanServe : Served → Type 0
 CanServe (served.Ran kernel) = (kernel ≡ booted kernel.plan kernel.inputs kernel.script) × IsPlanned kernel.plan × AreInputs kernel.plan.unit kernel.inputs
     × IsScript kernel.plan.unit kernel.script
@@ -108,4 +119,6 @@ CanServe (served.Audited acts looks) = ⊤
 CanServe (served.Executed kernel) = (kernel ≡ booted kernel.plan kernel.inputs kernel.script) × IsPlan kernel.plan × AreInputs kernel.plan.unit kernel.inputs
     × IsScript kernel.plan.unit kernel.script
 CanServe (served.Tried kernel) = (kernel ≡ booted kernel.plan (no_inputs kernel.plan.unit) no_script) × IsPlanned kernel.plan
-CanServe (served.Traced kernel text) = HasTold kernel text.items
+CanServe (served.Traced kernel text) = HasTold traced_run kernel text.items
+CanServe (served.Saved kernel text) = HasTold saved_run kernel text.items
+CanServe (served.Resumed kernel) = CanGoOn kernel

@@ -1,7 +1,7 @@
 -- The status and the line of each refusal.
 use Rattle.std.specs.Prelude.{ℕ, List, codes, Some}
 use Rattle.psy_base.specs.declared.limits.TheConstants as limit
-use Rattle.psy_log.specs.Forms.{words_line, limit_line, refused_line, refused_image_line}
+use Rattle.psy_log.specs.Forms.{busy_line, words_line, limit_line, refused_line, refused_image_line}
 use Rattle.psy_plan.specs.declared.refusal.Refusal.{Refusal as Cause}
 use Rattle.psy_plan.specs.declared.refusal.Refusal.TheVariants.{Lexical, Syntax, Deep, Rule, Many, Nodes, Edges, Ring, Queue, Cells, Infeasible}
 use Rattle.psy_plan.specs.declared.refusal.Stop.{Stop as PlanStop}
@@ -11,9 +11,10 @@ use Rattle.psy_script.specs.declared.fault.TextFault.{TextFault}
 use Rattle.psy_script.specs.declared.fault.TextFault.TheVariants as text
 use Rattle.psy_script.specs.Faults.{line_number}
 use Rattle.psy_run.specs.declared.refusal.File.{File}
-use Rattle.psy_run.specs.declared.refusal.File.TheVariants.{Program, Image as ImageFile, Inputs, Script, Trace as TraceFile}
+use Rattle.psy_run.specs.declared.refusal.File.TheVariants.{Program, Image as ImageFile, Inputs, Script, Trace as TraceFile, State as StateFile}
 use Rattle.psy_run.specs.declared.refusal.Refusal.{Refusal}
 use Rattle.psy_run.specs.declared.refusal.Refusal.TheVariants.{Words, TooLong, Unplanned, Line, Lines, Cycles, Image, Code, Large, Trace, LongTrace}
+use Rattle.psy_run.specs.declared.refusal.Refusal.TheVariants.{State, LongState, Busy}
 use Rattle.psy_run.specs.declared.refusal.Stop.{Stop}
 use Rattle.psy_run.specs.declared.refusal.Stop.TheVariants as stop
 
@@ -44,6 +45,9 @@ status_of (Code number place) = 1
 status_of Large = 7
 status_of (Trace number line) = 6
 status_of LongTrace = 7
+status_of (State number place) = 6
+status_of LongState = 7
+status_of (Busy agent) = 9
 
 -- What a file is called
 abbrev pub file_name : File → List ℕ
@@ -52,6 +56,7 @@ file_name ImageFile = codes "image"
 file_name Inputs = codes "inputs"
 file_name Script = codes "script"
 file_name TraceFile = codes "trace"
+file_name StateFile = codes "state"
 
 -- The line of a file that has too many bytes, or would have them
 abbrev pub long_line : File → List ℕ
@@ -70,6 +75,9 @@ line_of (Code number place) = refused_line (codes "verify") number (Some place)
 line_of (Trace number line) = refused_line (codes "trace") number (Some line)
 line_of Large = long_line ImageFile
 line_of LongTrace = long_line TraceFile
+line_of (State number place) = refused_line (codes "state") number (Some place)
+line_of LongState = long_line StateFile
+line_of (Busy agent) = busy_line agent
 
 -- Why a command stops at the text of a file
 abbrev pub stop_by : File → TextFault → Stop

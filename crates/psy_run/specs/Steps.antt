@@ -1,5 +1,5 @@
 -- The steps that judge a command, each with its refusal. Those from a text to what a run needs are the plan's.
-use Rattle.std.specs.Prelude.{◌≡◌, ℕ, ◌*◌, ◌<◌, ◌≤◌, List, length, Option, Some, ℤ}
+use Rattle.std.specs.Prelude.{◌≡◌, ℕ, ◌*◌, ◌<◌, ◌≤◌, List, length, Option, None, Some, ℤ}
 use Rattle.psy_audit.specs.Answers.{fault_at}
 use Rattle.psy_audit.specs.Faults.{IsLegal, first_fault}
 use Rattle.psy_audit.specs.Texts.{lines_in}
@@ -7,27 +7,38 @@ use Rattle.psy_audit.specs.Traces.{Judged, acts as acts_told, looks as looks_tol
 use Rattle.psy_base.specs.declared.limits.TheConstants.{FILE_BYTES, RUN}
 use Rattle.psy_base.specs.declared.sizes.Sizes.{Sizes}
 use Rattle.psy_base.specs.declared.ways.Ways.{Ways as WayLists}
+use Rattle.psy_dates.specs.declared.opening.Opening.{Opening as State}
 use Rattle.psy_door.specs.Files.{Files, WhereTold, bytes_under}
 use Rattle.psy_flow.specs.Verified.{IsLeastFault}
 use Rattle.psy_gen.specs.Emission.{code_of}
 use Rattle.psy_graph.specs.declared.graph.Graph.{Graph}
 use Rattle.psy_history.specs.declared.told.Script.{Script as Said}
+use Rattle.psy_history.specs.Actions.{System}
+use Rattle.psy_history.specs.Resuming.{IsQuiet}
 use Rattle.psy_history.specs.Scripts.{order_of}
 use Rattle.psy_image.specs.Answers.{IsBadAt, image_of}
 use Rattle.psy_image.specs.Images.{spells_image}
 use Rattle.psy_image.specs.declared.image.Image.{Image as CodeImage}
+use Rattle.psy_kernel.specs.Freezing.{IsFirstBusy}
 use Rattle.psy_plan.specs.Steps as plan
 use Rattle.psy_script.specs.Faults.{HasManyLines, IsFirst}
 use Rattle.psy_script.specs.Inputs.{AreListsOf, inputs_judge}
 use Rattle.psy_script.specs.Script.{IsScriptOf, script_judge}
+use Rattle.psy_snap.specs.Bytes.{spelling}
+use Rattle.psy_snap.specs.Faults.{faults_of, least_fault}
+use Rattle.psy_snap.specs.Forms.{Form}
+use Rattle.psy_snap.specs.Ranges.{FitsState}
+use Rattle.psy_snap.specs.Shapes.{HasForm}
+use Rattle.psy_tree.specs.Parts.{agent_at}
 use Rattle.psy_tree.specs.declared.unit.Unit.{Unit as Whole}
 use Rattle.psy_verify.specs.Fits.{IsChecked}
 use Rattle.psy_run.specs.declared.refusal.File.{File}
 use Rattle.psy_run.specs.declared.refusal.File.TheVariants.{Inputs, Script}
 use Rattle.psy_run.specs.declared.refusal.Refusal.{Refusal}
-use Rattle.psy_run.specs.declared.refusal.Refusal.TheVariants.{Words, TooLong, Line, Lines, Cycles, Image, Code, Large, Trace, LongTrace}
+use Rattle.psy_run.specs.declared.refusal.Refusal.TheVariants.{Words, TooLong, Line, Lines, Cycles, Image, Code, Large, Trace, LongTrace, LongState, Busy}
+use Rattle.psy_run.specs.declared.refusal.Refusal.TheVariants.{State as BadState}
 use Rattle.psy_run.specs.Asked.{Command, Asks, AskNothing}
-use Rattle.psy_run.specs.Courses.{Course, planned, step, unless}
+use Rattle.psy_run.specs.Courses.{Course, planned, step, unless, ◌>>=◌}
 
 -- What the words ask for
 abbrev pub asking : List (List ℕ) → Course Command
@@ -120,3 +131,38 @@ pacing unit until = unless (until * unit.quantum ≤ RUN) (RUN < until * unit.qu
 -- The trace of a run has at most 262,144 bytes.
 abbrev pub fitting : List ℕ → Course (Unit {0})
 fitting trace = unless (length trace ≤ FILE_BYTES) (FILE_BYTES < length trace) LongTrace
+
+-- The action of an agent with this name is under way at a date, and none of an agent before it is.
+abbrev pub IsBusyAt : System → ℕ → Refusal → Type 0
+IsBusyAt s date (Busy name) = (agent : ℕ) × IsFirstBusy s date agent × (name ≡ (agent_at s.unit agent).name)
+IsBusyAt s date _ = ⊥
+
+-- The date is quiet.
+abbrev pub resting : System → ℕ → Course (Unit {0})
+resting s date = step (λ done. IsQuiet s date) (IsBusyAt s date)
+
+-- A state has at most 262,144 bytes.
+abbrev pub holding : List ℕ → Course (Unit {0})
+holding state = unless (length state ≤ FILE_BYTES) (FILE_BYTES < length state) LongState
+
+-- A state is taken at a quiet date, and has no more bytes than it may.
+abbrev pub leaving : System → ℕ → List ℕ → Course (Unit {0})
+leaving s date state = do
+  _ ← resting s date
+  holding state
+
+-- The bytes spell a state of this form, and are without a fault.
+pub record IsStateOf (form : Form) (bytes : List ℕ) (state : State) : Type 0 where
+  pub spelled : spelling state ≡ bytes
+  pub formed : HasForm form state
+  pub ranges : FitsState state
+  pub sound : least_fault (faults_of form bytes) ≡ None
+
+-- The first fault of bytes as a state
+abbrev pub IsUnsound : Form → List ℕ → Refusal → Type 0
+IsUnsound form bytes (BadState number place) = least_fault (faults_of form bytes) ≡ Some (record { number = number; place = place })
+IsUnsound form bytes _ = ⊥
+
+-- The state that bytes spell
+abbrev pub restoring : Form → List ℕ → Course State
+restoring form bytes = step (IsStateOf form bytes) (IsUnsound form bytes)

@@ -1,6 +1,6 @@
 //! The words of the command line.
-ghost use Rattle.std.specs.Prelude.{ℕ, [], ◌∷◌, map, MatchOption, string_bytes};
-ghost use Rattle.psy_run.specs.Asked.{Asks, IsDate, IsSeed, AskNothing, asked_by};
+ghost use Rattle.std.specs.Prelude.{◌≡◌, ℕ, [], ◌∷◌, map, option_copied, MatchOption, string_bytes};
+ghost use Rattle.psy_run.specs.Asked.{Asks, AskNothing, IsDate, IsSeed, Resume, asked_by};
 
 use psy_base::limits;
 use psy_text::word::number;
@@ -49,6 +49,19 @@ pub enum Command<'a> {
         inputs: Option<&'a str>,
         script: Option<&'a str>,
     },
+    Save {
+        program: &'a str,
+        date: u32,
+        inputs: Option<&'a str>,
+        script: Option<&'a str>,
+    },
+    Resume {
+        program: &'a str,
+        state: &'a str,
+        until: u32,
+        inputs: Option<&'a str>,
+        script: Option<&'a str>,
+    },
 }
 
 // The date that a word is.
@@ -92,7 +105,7 @@ fn of_two<'a>(command: &'a str, word: &'a str) -> Option<Command<'a>>
     None
 }
 
-// `run PROG UNTIL`, `exec IMAGE UNTIL`, `trace PROG UNTIL`, `check PROG UNTIL` or `trial SEED UNTIL`
+// `run PROG UNTIL`, `exec IMAGE UNTIL`, `trace PROG UNTIL`, `save PROG DATE`, `check PROG UNTIL` or `trial SEED UNTIL`
 fn of_three<'a>(command: &'a str, word: &'a str, until: &'a str) -> Option<Command<'a>>
     ensures { MatchOption result (AskNothing (command.now ∷ word.now ∷ until.now ∷ [])) (λ c. Asks (command.now ∷ word.now ∷ until.now ∷ []) (asked_by c)) }
 {
@@ -131,10 +144,40 @@ fn of_three<'a>(command: &'a str, word: &'a str, until: &'a str) -> Option<Comma
             script: None,
         });
     }
+    if command == "save" {
+        return Some(Command::Save {
+            program: word,
+            date: until,
+            inputs: None,
+            script: None,
+        });
+    }
     None
 }
 
-// `run PROG UNTIL INPUTS`, `exec IMAGE UNTIL INPUTS`, `audit PROG UNTIL TRACE` or `trace PROG UNTIL INPUTS`
+// `resume PROG STATE UNTIL [INPUTS [SCRIPT]]`, by the words behind the first one
+fn to_resume<'a>(
+    program: &'a str,
+    state: &'a str,
+    until: &'a str,
+    inputs: Option<&'a str>,
+    script: Option<&'a str>,
+) -> Option<Command<'a>>
+    ensures { MatchOption result ((date : ℕ) → IsDate until.now date → ⊥) (λ c. (date : ℕ) × IsDate until.now date
+        × (asked_by c ≡ Resume program.now state.now date (option_copied inputs.entry) (option_copied script.entry))) }
+{
+    let until = date(until.as_bytes())?;
+    Some(Command::Resume {
+        program,
+        state,
+        until,
+        inputs,
+        script,
+    })
+}
+
+// `run PROG UNTIL INPUTS`, `exec IMAGE UNTIL INPUTS`, `audit PROG UNTIL TRACE`, `trace PROG UNTIL INPUTS`, `save PROG DATE INPUTS` or
+// `resume PROG STATE UNTIL`
 fn of_four<'a>(
     command: &'a str,
     program: &'a str,
@@ -144,6 +187,9 @@ fn of_four<'a>(
     ensures { MatchOption result (AskNothing (command.now ∷ program.now ∷ until.now ∷ inputs.now ∷ []))
         (λ c. Asks (command.now ∷ program.now ∷ until.now ∷ inputs.now ∷ []) (asked_by c)) }
 {
+    if command == "resume" {
+        return to_resume(program, until, inputs, None, None);
+    }
     let until = date(until.as_bytes())?;
     if command == "run" {
         return Some(Command::Run {
@@ -177,10 +223,19 @@ fn of_four<'a>(
             script: None,
         });
     }
+    if command == "save" {
+        return Some(Command::Save {
+            program,
+            date: until,
+            inputs: Some(inputs),
+            script: None,
+        });
+    }
     None
 }
 
-// `run PROG UNTIL INPUTS SCRIPT`, `exec IMAGE UNTIL INPUTS SCRIPT`, `audit PROG UNTIL TRACE SCRIPT` or `trace PROG UNTIL INPUTS SCRIPT`
+// `run PROG UNTIL INPUTS SCRIPT`, `exec IMAGE UNTIL INPUTS SCRIPT`, `audit PROG UNTIL TRACE SCRIPT`, `trace PROG UNTIL INPUTS SCRIPT`,
+// `save PROG DATE INPUTS SCRIPT` or `resume PROG STATE UNTIL INPUTS`
 fn of_five<'a>(
     command: &'a str,
     program: &'a str,
@@ -191,6 +246,9 @@ fn of_five<'a>(
     ensures { MatchOption result (AskNothing (command.now ∷ program.now ∷ until.now ∷ inputs.now ∷ script.now ∷ []))
         (λ c. Asks (command.now ∷ program.now ∷ until.now ∷ inputs.now ∷ script.now ∷ []) (asked_by c)) }
 {
+    if command == "resume" {
+        return to_resume(program, until, inputs, Some(script), None);
+    }
     let until = date(until.as_bytes())?;
     if command == "run" {
         return Some(Command::Run {
@@ -223,6 +281,32 @@ fn of_five<'a>(
             inputs: Some(inputs),
             script: Some(script),
         });
+    }
+    if command == "save" {
+        return Some(Command::Save {
+            program,
+            date: until,
+            inputs: Some(inputs),
+            script: Some(script),
+        });
+    }
+    None
+}
+
+// `resume PROG STATE UNTIL INPUTS SCRIPT`
+fn of_six<'a>(
+    command: &'a str,
+    program: &'a str,
+    state: &'a str,
+    until: &'a str,
+    inputs: &'a str,
+    script: &'a str,
+) -> Option<Command<'a>>
+    ensures { MatchOption result (AskNothing (command.now ∷ program.now ∷ state.now ∷ until.now ∷ inputs.now ∷ script.now ∷ []))
+        (λ c. Asks (command.now ∷ program.now ∷ state.now ∷ until.now ∷ inputs.now ∷ script.now ∷ []) (asked_by c)) }
+{
+    if command == "resume" {
+        return to_resume(program, state, until, Some(inputs), Some(script));
     }
     None
 }
@@ -243,6 +327,14 @@ pub fn read_words(words: &[String]) -> Option<Command<'_>>
         [command, program, until, inputs, script] => of_five(
             command.as_str(),
             program.as_str(),
+            until.as_str(),
+            inputs.as_str(),
+            script.as_str(),
+        ),
+        [command, program, state, until, inputs, script] => of_six(
+            command.as_str(),
+            program.as_str(),
+            state.as_str(),
             until.as_str(),
             inputs.as_str(),
             script.as_str(),

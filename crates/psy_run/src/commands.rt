@@ -11,6 +11,7 @@ use crate::image_commands::{build, exec};
 use crate::ready::{boot, ready};
 use crate::refusal::{Refusal, Stop};
 use crate::served::Served;
+use crate::state_commands::{resume, save};
 use crate::steps::{compile, translate};
 use crate::supply::{graphs, supply};
 use crate::told::{nothing_said, pace};
@@ -166,5 +167,22 @@ pub fn judge<F: Shelf>(alloc: Global, words: &[String], shelf: &mut F) -> Result
                 script,
             },
         ) => trace(alloc, shelf, program, until, inputs, script),
+        Some(
+            Command::Save {
+                program,
+                date,
+                inputs,
+                script,
+            },
+        ) => save(alloc, shelf, program, date, inputs, script),
+        Some(
+            Command::Resume {
+                program,
+                state,
+                until,
+                inputs,
+                script,
+            },
+        ) => resume(alloc, shelf, program, state, until, inputs, script),
     }
 }

@@ -95,6 +95,8 @@ fn of_run(served: Served) -> Option<Kernel>
         Served::Tried(kernel) => none_of(kernel),
         Served::Executed(kernel) => none_of(kernel),
         Served::Traced(kernel, _text) => none_of(kernel),
+        Served::Saved(kernel, _bytes) => none_of(kernel),
+        Served::Resumed(kernel) => none_of(kernel),
         Served::Checked {
             unit: _unit,
             sizes: _sizes,

@@ -5,7 +5,9 @@ ghost use Rattle.std.specs.List.{All};
 ghost use Rattle.psy_base.specs.declared.limits.TheConstants.{FILE_BYTES};
 ghost use Rattle.psy_door.specs.Files.{Files, bytes_under};
 ghost use Rattle.psy_dates.specs.declared.plan.Plan.{Plan};
-ghost use Rattle.psy_dates.specs.Plans.{IsPlan};
+ghost use Rattle.psy_dates.specs.Beginnings.{behind};
+ghost use Rattle.psy_dates.specs.declared.opening.Opening.{Opening as State};
+ghost use Rattle.psy_dates.specs.Plans.{IsPlan, IsSoundFor};
 ghost use Rattle.psy_base.specs.declared.sizes.Sizes.{Sizes};
 ghost use Rattle.psy_base.specs.declared.ways.Ways.{Ways};
 ghost use Rattle.psy_budget.specs.declared.charge.Stall.{Stall};
@@ -17,40 +19,43 @@ ghost use Rattle.psy_verify.specs.Fits.{IsChecked};
 ghost use Rattle.psy_history.specs.Compiled.{AreInputs, stated};
 ghost use Rattle.psy_history.specs.Feeding.{OverranAlike, Reaches};
 ghost use Rattle.psy_history.specs.declared.told.Script.{Script};
-ghost use Rattle.psy_history.specs.Scripts.{IsScript, order_of};
+ghost use Rattle.psy_history.specs.Scripts.{IsScript, order_of, stalls_of};
 ghost use Rattle.psy_run.specs.Accepted.{IsRunnable};
 ghost use Rattle.psy_meaning.specs.ListedWays.{AreWaysOf};
 ghost use Rattle.psy_run.specs.declared.refusal.Refusal.{Refusal as Cause};
 ghost use Rattle.psy_run.specs.Answer.{Answers, answering, planning, supplying_by};
-ghost use Rattle.psy_run.specs.Asked.{Asks, Check, Exec, Run};
-ghost use Rattle.psy_run.specs.Bounds.{IsBounded, IsBorneOut, KeepsBounds};
+ghost use Rattle.psy_run.specs.Asked.{Asks, Check, Command, IsPlain, Run};
+ghost use Rattle.psy_run.specs.Bounds.{IsBounded, IsBorneOut, KeepsBounds, KeepsBoundsBehind};
 ghost use Rattle.psy_run.specs.OwnLines.{own_text};
-ghost use Rattle.psy_run.specs.Planned.{IsStatedPlan};
-ghost use Rattle.psy_run.specs.Services.{Service, Ran, meaning_by, meaning_of, text_of};
+ghost use Rattle.psy_run.specs.Planned.{IsPlanned, IsStatedPlan};
+ghost use Rattle.psy_run.specs.Services.{Service, Ran, meaning_behind, meaning_by, meaning_of, text_of};
 
 use psy_build::laws::ranges;
-use psy_flow::laws::{listed, one_list};
+use psy_flow::laws::{listed, looking, named, nexts, one_list, sends};
 use psy_gen::laws::alike as generated;
 use psy_graph::laws::one_graph;
 use psy_history::laws::{
-    alike, compiled, fitting, isolation as histories, on_time, one_of_them, queue_sizes, regular,
-    ring_sizes,
+    alike, alike_behind, compiled, fitting, isolation as histories, on_time, one_of_them, openings,
+    queue_sizes, regular, ring_sizes,
 };
 use psy_image::laws::{one_image, one_text};
 use psy_make::laws::short;
 use psy_meaning::laws::sound;
 use psy_plan::laws::{by_ways, one_plan, programs, supplies, supplies_by};
+use psy_save::laws::by_text;
 use psy_script::laws::lawful;
 use psy_sizes::laws::listed_sizes;
+use psy_snap::laws::{distinct, sound as sound_states};
 use psy_verify::laws::{fits as verified_fits, images, rules};
 
-/// Words have one answer, where files are told, and no other (that those of `exec` have one, the call itself shows, unless memory runs out); and the
+/// Words have one answer, where files are told, and no other (that those of `exec`, `save` and `resume` have one, the
+/// call itself shows, unless memory runs out); and the
 /// program of a text that is refused is refused in one way, and not planned.
 pub fn one_answer()
     ensures same { (words : List (List ℕ)) (files : Files) (status other : ℕ) (text another : List ℕ) → Answers words (Some files) status text
         → Answers words (Some files) other another → (status ≡ other) × (text ≡ another) }
-    ensures some { (words : List (List ℕ)) (files : Files) → ((image : List ℕ) (until : ℕ) (inputs script : Option (List ℕ))
-        → Asks words (Exec image until inputs script) → ⊥) → (status : ℕ) × (text : List ℕ) × Answers words (Some files) status text }
+    ensures some { (words : List (List ℕ)) (files : Files) → ((command : Command) → Asks words command → IsPlain command)
+        → (status : ℕ) × (text : List ℕ) × Answers words (Some files) status text }
     ensures refused { (text : List ℕ) (until : ℕ) (refusal : Cause) → length text ≤ FILE_BYTES → (planning text until).stops refusal
         → ((other : Cause) → (planning text until).stops other → other ≡ refusal) × ((done : Service) → (planning text until).gives done → ⊥) }
 {
@@ -65,6 +70,7 @@ pub fn one_answer()
     verified_fits();
     one_list();
     ranges();
+    distinct();
 }
 
 /// What psyc compiles and plans fits: a plan by the statements of its program is one that a kernel runs, whose code goes well by the lists of
@@ -116,6 +122,23 @@ pub fn bounds_by()
     queue_sizes();
 }
 
+/// A run that goes on from a state keeps its bounds, for all inputs and every script: behind the state each queue has as many places more as it held
+/// messages there.
+pub fn bounds_behind()
+    ensures { (plan : Plan) (state : State) (inputs : List (List ℤ)) (script : Script) → IsPlanned plan → AreInputs plan.unit inputs
+        → IsScript plan.unit script → IsSoundFor plan (behind plan state) inputs (stalls_of script)
+        → KeepsBoundsBehind (meaning_behind plan.unit plan.nexts plan.sizes plan.until state inputs script) (order_of plan.unit script) plan.sizes plan.until }
+{
+    compiled();
+    openings();
+    regular();
+    alike_behind();
+    on_time();
+    ring_sizes();
+    queue_sizes();
+    by_text();
+}
+
 /// What words come to, where nothing refuses it, keeps its bounds.
 pub fn bounded()
     ensures { (words : List (List ℕ)) (files : Option Files) (done : Service) → (answering words files).gives done → IsBounded done }
@@ -132,6 +155,13 @@ pub fn bounded()
     images();
     fits_by();
     bounds_by();
+    fits();
+    looking();
+    named();
+    nexts();
+    sends();
+    sound_states();
+    bounds_behind();
 }
 
 /// What a check tells is borne out: its lines are those of the agents' graphs, and their demand is met, over every length where it says so.

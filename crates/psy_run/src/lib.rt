@@ -1,5 +1,6 @@
 //! The top call of psyc: from words and the bytes of a program to a status and a text.
-//! It may know what plans programs, what reads inputs and scripts, what tells and judges traces, the door and the kernel, through their public calls.
+//! It may know what plans programs, what reads inputs and scripts, what tells and judges traces, what saves and restores states, the door and the kernel,
+//! through their public calls.
 #![tactic(auto)]
 
 mod asked;
@@ -15,6 +16,7 @@ mod ready;
 mod refusal;
 mod run;
 mod served;
+mod state_commands;
 mod steps;
 mod supply;
 mod texts;
@@ -24,6 +26,6 @@ mod trace_commands;
 
 pub use clean::psyc_over_clean;
 pub use kernels::{kernel_asked, kernel_of};
-pub use refusal::{File, Refusal, Stop};
+pub use refusal::{AgentName, File, Refusal, Stop};
 pub use run::{run_loop, write_date, write_summary};
 pub use top::psyc;

@@ -2,7 +2,7 @@
 ghost use Rattle.std.specs.Prelude.{◌≡◌, ◌≤◌, List, IfOk, IfErr, OnOk, option_copied};
 ghost use Rattle.psy_history.specs.Compiled.{AreInputs};
 ghost use Rattle.psy_history.specs.Scripts.{IsScript};
-ghost use Rattle.psy_graph.specs.declared.graph.Graph.{Graph};
+ghost use Rattle.psy_gen.specs.Emission.{code_of};
 ghost use Rattle.psy_kernel.specs.Progress.{booted};
 ghost use Rattle.psy_meaning.specs.Alike.{ActsAlike};
 ghost use Rattle.psy_meaning.specs.ListedWays.{AreWaysOf};
@@ -36,9 +36,10 @@ pub fn boot(
     script: Script,
 ) -> Result<Kernel, Memory>
     requires text { IsOfText unit }
+    requires code { supply.code ≡ code_of unit }
     requires alike { ActsAlike unit supply.code }
     requires ways { AreWaysOf unit supply.ways }
-    requires supplied { (graphs : List Graph) × (supplying unit until).gives (supply_of graphs supply) }
+    requires supplied { (supplying unit until).gives (supply_of supply) }
     requires inputs { AreInputs unit inputs.lists }
     requires script { IsScript unit script }
     ensures booted { IfOk result (λ kernel. kernel ≡ booted kernel.plan inputs.lists script) }

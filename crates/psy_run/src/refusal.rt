@@ -1,14 +1,16 @@
 //! Why a command isn't served.
-ghost use Rattle.std.specs.Prelude.{◌≡◌, ◌≤◌, length, Some as some};
+ghost use Rattle.std.specs.Prelude.{◌≡◌, ◌≤◌, length, IfOk, Some as some};
 ghost use Rattle.psy_base.specs.declared.limits.TheConstants.{WORD_BYTES};
 ghost use Rattle.psy_run.specs.Refusals.{status_of, status_of_plan, stop_of, line_of, long_line, file_name};
 ghost use Rattle.psy_log.specs.Forms.{name_of, limit_line, read_line, refused_line, line_of as note_line};
 ghost use Rattle.psy_run.specs.declared.refusal.Stop.TheVariants.{Memory as no_memory};
 
-use psy_base::{Memory, limits};
+use psy_base::{Memory, Text, limits};
 use psy_log::{Line, Note};
 use psy_plan::Refusal as Cause;
 use psy_script::LineKind;
+use std::alloc::Global;
+use std::marker::Model;
 
 /// What a file is read for.
 #[derive(Clone, Copy, Debug, PartialEq, Eq)]
@@ -18,6 +20,7 @@ pub enum File {
     Inputs,
     Script,
     Trace,
+    State,
 }
 
 impl File {
@@ -32,13 +35,51 @@ impl File {
             File::Inputs => b"inputs",
             File::Script => b"script",
             File::Trace => b"trace",
+            File::State => b"state",
         }
+    }
+}
+
+/// The name of an agent, which is at most 32 bytes long. Contracts see the list of its bytes.
+#[derive(Debug, Drop)]
+pub struct AgentName {
+    text: Text,
+}
+
+impl Model for AgentName {
+    ghost use Rattle.std.specs.Prelude.{List, ℕ, ◌≤◌, length};
+    ghost use Rattle.psy_base.specs.declared.limits.TheConstants.{WORD_BYTES};
+
+    ghost Value = { List ℕ };
+
+    ghost view = { λ n. n.text };
+
+    ghost invariant = { λ n. length n.text ≤ WORD_BYTES };
+}
+
+impl AgentName {
+    /// The name that these bytes spell. The only error is want of memory.
+    pub fn of(alloc: Global, bytes: &[u8]) -> Result<AgentName, Memory>
+        requires { length bytes.now ≤ WORD_BYTES }
+        ensures { IfOk result (λ n. n ≡ bytes.now) }
+    {
+        Ok(AgentName {
+            text: Text::from_bytes(alloc, bytes)?,
+        })
+    }
+
+    /// The bytes that spell it.
+    pub fn bytes(&self) -> &[u8]
+        ensures is { result.now ≡ self.now }
+        ensures short { length result.now ≤ WORD_BYTES }
+    {
+        self.text.bytes()
     }
 }
 
 /// What is refused, of the words and the files that they name. Contracts read the status and the line of each from one
 /// definition.
-#[derive(Clone, Copy, Debug, PartialEq, Eq)]
+#[derive(Debug, Drop)]
 pub enum Refusal {
     /// The words are of no listed form.
     Words,
@@ -72,10 +113,19 @@ pub enum Refusal {
     },
     /// The trace of a run would have more than 262,144 bytes.
     LongTrace,
+    /// The bytes are no state that the program's runs may go on from: of their faults the least by place, then number.
+    State {
+        number: u32,
+        place: u32,
+    },
+    /// The state of a run would have more than 262,144 bytes.
+    LongState,
+    /// The date isn't quiet: the first agent whose action is under way there.
+    Busy(AgentName),
 }
 
 /// Why a command stopped before anything was written.
-#[derive(Clone, Copy, Debug, PartialEq, Eq)]
+#[derive(Debug, Drop)]
 pub enum Stop {
     Refused(Refusal),
     /// A file that the words name couldn't be read.
@@ -94,38 +144,45 @@ impl From<Memory> for Stop {
 
 impl Refusal {
     /// The status with which the program ends.
-    pub fn status(self) -> u8
-        ensures { result ≡ status_of self }
+    pub fn status(&self) -> u8
+        ensures { result ≡ status_of self.now }
     {
         match self {
-            Refusal::Unplanned(cause) => status_of_plan(cause),
+            Refusal::Unplanned(cause) => status_of_plan(*cause),
             Refusal::Words => 2,
-            Refusal::Line { .. } | Refusal::Trace { .. } => 6,
+            Refusal::Line { .. } | Refusal::Trace { .. } | Refusal::State { .. } => 6,
             Refusal::Image(_) | Refusal::Code { .. } => 1,
             Refusal::TooLong(_)
             | Refusal::Lines
             | Refusal::Cycles
             | Refusal::Large
-            | Refusal::LongTrace => 7,
+            | Refusal::LongTrace
+            | Refusal::LongState => 7,
+            Refusal::Busy(_) => 9,
         }
     }
 
     /// The line that says it.
-    pub fn line(self) -> Line
-        ensures { result ≡ line_of self }
+    pub fn line(&self) -> Line
+        ensures { result ≡ line_of self.now }
     {
         match self {
             Refusal::Words => line(&Note::Words),
-            Refusal::TooLong(file) => long(file),
+            Refusal::TooLong(file) => long(*file),
             Refusal::Unplanned(cause) => line(&cause.note()),
-            Refusal::Line { file, kind, line } => refused(file.name(), kind.number(), line),
+            Refusal::Line { file, kind, line } => refused(file.name(), kind.number(), *line),
             Refusal::Lines => limit(b"lines", limits::LINES as u64),
             Refusal::Cycles => limit(b"run", limits::RUN),
-            Refusal::Image(place) => line(&Note::RefusedImage { place }),
-            Refusal::Code { number, place } => refused(b"verify", number, place),
-            Refusal::Trace { number, line } => refused(b"trace", number, line),
+            Refusal::Image(place) => line(&Note::RefusedImage { place: *place }),
+            Refusal::Code { number, place } => refused(b"verify", *number, *place),
+            Refusal::Trace { number, line } => refused(b"trace", *number, *line),
             Refusal::Large => long(File::Image),
             Refusal::LongTrace => long(File::Trace),
+            Refusal::State { number, place } => refused(b"state", *number, *place),
+            Refusal::LongState => long(File::State),
+            Refusal::Busy(agent) => line(&Note::Busy {
+                agent: agent.bytes(),
+            }),
         }
     }
 }

@@ -2,7 +2,7 @@
 ghost use Rattle.std.specs.Prelude.{◌≡◌, ◌+◌, ◌-◌, ◌*◌, ◌≤◌, length, IfErr, OnOk, OnErr};
 ghost use Rattle.psy_door.specs.Faults.{Rose};
 ghost use Rattle.psy_kernel.specs.declared.stage.Stage.TheVariants.{Over};
-ghost use Rattle.psy_kernel.specs.Progress.{booted, lines_told, order, stage_of, summary_told, system};
+ghost use Rattle.psy_kernel.specs.Progress.{began, booted, lines_told, order, stage_of, summary_told, system};
 ghost use Rattle.psy_kernel.specs.Texts.{log_of, run_text, summary_of, text_of};
 ghost use Rattle.psy_log.specs.Writing.{Written};
 ghost use Rattle.psy_run.specs.Cuts.{IsCutAt, log_lines, run_lines};
@@ -33,9 +33,9 @@ pub fn write_date<S: Sink>(kernel: &mut Kernel, out: &mut S) -> Result<(), Write
     }
 }
 
-// Does all dates and cycles of a kernel that was just booted, and writes the lines of each date.
+// Does all dates and cycles of a kernel that was just booted or opened, and writes the lines of each date.
 fn run_dates<S: Sink>(kernel: &mut Kernel, out: &mut S) -> Result<(), WriteFault>
-    requires booted { kernel.old ≡ booted kernel.old.plan kernel.old.inputs kernel.old.script }
+    requires began { kernel.old ≡ began kernel.old.plan kernel.old.inputs kernel.old.script kernel.old.opening }
     ensures counted { S.faults out.old ≤ S.faults out.new }
     ensures failed { OnErr result (Rose (S.faults out.old) (S.faults out.new)) }
     ensures unfailed { OnOk result (S.faults out.new ≡ S.faults out.old) }
@@ -44,6 +44,8 @@ fn run_dates<S: Sink>(kernel: &mut Kernel, out: &mut S) -> Result<(), WriteFault
     ensures cut { IfErr result (λ fault. IsCutAt (S.held out.old) (S.held out.new)
         (log_lines (system kernel.old) (kernel.old.plan.until + 1)) fault.taken) }
 {
+    // No date behind the plan's last one was done.
+    let _plan = kernel.plan();
     'stages: loop {
         match kernel.stage() {
             Stage::Over => return Ok(()),
@@ -69,8 +71,8 @@ fn pass_date(kernel: &mut Kernel)
     'lines: while kernel.next_line(&mut line) {}
 }
 
-// Does all dates and cycles of a kernel that was just booted, and writes none of their lines.
-fn pass_dates(kernel: &mut Kernel)
+/// Does all dates and cycles of a kernel that was just booted, and writes none of their lines.
+pub fn pass_dates(kernel: &mut Kernel)
     requires { kernel.old ≡ booted kernel.old.plan kernel.old.inputs kernel.old.script }
     ensures { kernel.new ≡ ended kernel.old }
 {
@@ -110,9 +112,10 @@ pub fn write_summary<S: Sink>(kernel: &Kernel, out: &mut S) -> Result<(), WriteF
     }
 }
 
-/// Runs a kernel that was just booted to its last date, and writes its lines date by date and the summary. It takes no memory.
+/// Runs a kernel that was just booted, or opened behind a state, to its last date, and writes its lines date by date and the summary. It takes no
+/// memory.
 pub fn run_loop<S: Sink>(kernel: &mut Kernel, out: &mut S) -> Result<(), WriteFault>
-    requires booted { kernel.old ≡ booted kernel.old.plan kernel.old.inputs kernel.old.script }
+    requires began { kernel.old ≡ began kernel.old.plan kernel.old.inputs kernel.old.script kernel.old.opening }
     ensures counted { S.faults out.old ≤ S.faults out.new }
     ensures failed { OnErr result (Rose (S.faults out.old) (S.faults out.new)) }
     ensures unfailed { OnOk result (S.faults out.new ≡ S.faults out.old) }

@@ -39,4 +39,8 @@ pub enum Served {
     Executed(Kernel),
     /// Writes the trace of a program's run: its kernel, which ran, and the text.
     Traced(Kernel, Vec<u8>),
+    /// Writes the state that a program's run leaves: its kernel, which ran, and the bytes.
+    Saved(Kernel, Vec<u8>),
+    /// Goes on with a program's run: its kernel, just opened behind a state.
+    Resumed(Kernel),
 }

@@ -1,7 +1,7 @@
 //! What a run of a program needs, planned.
-ghost use Rattle.std.specs.Prelude.{ℕ, List, IfOk, IfErr};
+ghost use Rattle.std.specs.Prelude.{◌≡◌, ℕ, List, IfOk, IfErr};
 ghost use Rattle.std.specs.List.{All};
-ghost use Rattle.psy_graph.specs.declared.graph.Graph.{Graph as Drawn};
+ghost use Rattle.psy_gen.specs.Emission.{code_of};
 ghost use Rattle.psy_graph.specs.Graphs.{IsSmall};
 ghost use Rattle.psy_meaning.specs.Alike.{ActsAlike};
 ghost use Rattle.psy_meaning.specs.ListedWays.{AreWaysOf};
@@ -20,12 +20,13 @@ use psy_rate::Rate;
 use psy_tree::Unit;
 use std::alloc::Global;
 
-/// What a program that its processors can run needs: its code, the ways of its actions, and the sizes of its buffers; with the lines above the
-/// demands of its agents, and up to which length the demand was looked at.
+/// What a program that its processors can run needs: its code, the ways of its actions, and the sizes of its buffers; with the graphs of its agents'
+/// actions, the lines above their demands, and up to which length the demand was looked at.
 #[derive(Drop)]
 pub struct Supplied {
     pub code: Code,
     pub ways: Ways,
+    pub graphs: Items<Graph>,
     pub sizes: Sizes,
     pub lines: Items<Rate>,
     pub extent: Extent,
@@ -49,8 +50,8 @@ pub fn graphs(alloc: Global, unit: &Unit, ways: &Ways) -> Result<Items<Graph>, S
 /// up to a date where that comes first, is supplied.
 pub fn supply(alloc: Global, unit: &Unit, until: u32) -> Result<Supplied, Stop>
     requires text { IsOfText unit.now }
-    ensures ok { IfOk result (λ supply. (graphs : List Drawn)
-        × (supplying unit.now until).gives (supply_of graphs supply)) }
+    ensures ok { IfOk result (λ supply. (supplying unit.now until).gives (supply_of supply)) }
+    ensures code { IfOk result (λ supply. supply.code ≡ code_of unit.now) }
     ensures alike { IfOk result (λ supply. ActsAlike unit.now supply.code) }
     ensures ways { IfOk result (λ supply. AreWaysOf unit.now supply.ways) }
     ensures err { (failed : List ℕ) (before after : ℕ) → IfErr result (Halts (supplying unit.now until) failed before after) }
@@ -60,6 +61,7 @@ pub fn supply(alloc: Global, unit: &Unit, until: u32) -> Result<Supplied, Stop>
         Ok(found) => Ok(Supplied {
             code: coded.code,
             ways: coded.ways,
+            graphs: found.graphs,
             sizes: found.sizes,
             lines: found.lines,
             extent: found.extent,

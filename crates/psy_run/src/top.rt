@@ -2,6 +2,7 @@
 ghost use Rattle.std.specs.Prelude.{◌≡◌, ◌≢◌, ℕ, ℤ, ◌≤◌, ◌⊎◌, List, [], map, string_bytes, Option, None, Some, IfSome, OnOk, OnErr, MatchResult};
 ghost use Rattle.psy_base.specs.declared.sizes.Sizes.{Sizes};
 ghost use Rattle.psy_code.specs.declared.code.Code.{Code};
+ghost use Rattle.psy_dates.specs.declared.opening.Opening.{Opening as State};
 ghost use Rattle.psy_door.specs.Faults.{Rose};
 ghost use Rattle.psy_door.specs.Files.{Files};
 ghost use Rattle.psy_door.specs.Growth.{Grew, GrewByFront};
@@ -17,21 +18,23 @@ ghost use Rattle.psy_run.specs.declared.refusal.File.{File as Role};
 ghost use Rattle.psy_run.specs.declared.refusal.Refusal.{Refusal as Cause};
 ghost use Rattle.psy_run.specs.Answer.{Answers, answering};
 ghost use Rattle.psy_run.specs.Asked.{AskNothing};
-ghost use Rattle.psy_run.specs.Bounds.{IsBounded, IsBorneOut, KeepsBounds};
+ghost use Rattle.psy_run.specs.Bounds.{IsBounded, IsBorneOut, KeepsBounds, KeepsBoundsBehind};
 ghost use Rattle.psy_run.specs.Outcome.{CanServe, Ends, IsPastLimit, IsUnread, MayAnswer, Says};
 ghost use Rattle.psy_run.specs.Refusals.{status_of, line_of, file_name};
-ghost use Rattle.psy_run.specs.Services.{Executed, Leaves, Ran, Service, Traced, meaning_by, meaning_of, service_of, text_of, trace_by, traced_run};
+ghost use Rattle.psy_run.specs.Services.{Executed, Leaves, Ran, Resumed, Saved, Service, Traced};
+ghost use Rattle.psy_run.specs.Services.{meaning_behind, meaning_by, meaning_of, saved_run, service_of, state_text, text_of, trace_by, traced_run};
 
 use crate::commands::judge;
-use crate::laws::{borne_out, bounded, bounds, bounds_by, one_answer};
+use crate::laws::{borne_out, bounded, bounds, bounds_behind, bounds_by, one_answer};
 use crate::refusal::{Stop, unread_line};
 use crate::run::{run_loop, trial_loop};
 use crate::served::Served;
 use crate::texts::{write_check, write_graph, write_note};
 use psy_door::{Shelf, Sink};
-use psy_history::laws::alike;
+use psy_history::laws::{alike, alike_behind};
 use psy_kernel::Kernel;
 use psy_log::{Line, Note, WriteFault, write_all_of};
+use psy_save::laws::by_text;
 use std::alloc::Global;
 
 // Writes a line and answers with this status.
@@ -150,6 +153,51 @@ fn write_trace<S: Sink>(
     Ok(())
 }
 
+// Writes the state that a kernel leaves, and leaves the kernel.
+fn write_state<S: Sink>(
+    kernel: Kernel,
+    bytes: &Vec<u8>,
+    out: &mut S,
+    left: &mut Option<Kernel>,
+) -> Result<(), WriteFault>
+    requires can { CanServe (Served.Saved kernel bytes.now) }
+    requires empty { left.old ≡ None }
+    ensures counted { S.faults out.old ≤ S.faults out.new }
+    ensures failed { OnErr result (Rose (S.faults out.old) (S.faults out.new)) }
+    ensures unfailed { OnOk result (S.faults out.new ≡ S.faults out.old) }
+    ensures written { Written (S.held out.old) (S.held out.new) result (text_of (saved_run kernel)) }
+    ensures over { MatchResult result (λ done. Leaves (saved_run kernel) left.new) (λ fault. left.new ≡ None) }
+{
+    if let Err(fault) = write_all_of(out, bytes.as_slice()) {
+        return Err(fault);
+    }
+    *left = Some(kernel);
+    Ok(())
+}
+
+// Goes on with a run by a kernel that was just opened, and leaves it.
+fn go_on<S: Sink>(
+    mut kernel: Kernel,
+    out: &mut S,
+    left: &mut Option<Kernel>,
+) -> Result<(), WriteFault>
+    requires can { CanServe (Served.Resumed kernel) }
+    requires empty { left.old ≡ None }
+    ensures counted { S.faults out.old ≤ S.faults out.new }
+    ensures failed { OnErr result (Rose (S.faults out.old) (S.faults out.new)) }
+    ensures unfailed { OnOk result (S.faults out.new ≡ S.faults out.old) }
+    ensures written { Written (S.held out.old) (S.held out.new) result (text_of (service_of (Served.Resumed kernel))) }
+    ensures over { MatchResult result (λ done. Leaves (service_of (Served.Resumed kernel)) left.new) (λ fault. left.new ≡ None) }
+{
+    alike_behind();
+    by_text();
+    if let Err(fault) = run_loop(&mut kernel, out) {
+        return Err(fault);
+    }
+    *left = Some(kernel);
+    Ok(())
+}
+
 // Does what is served, and writes its text.
 fn serve<S: Sink>(served: Served, out: &mut S, left: &mut Option<Kernel>) -> Result<(), WriteFault>
     requires can { CanServe served }
@@ -163,6 +211,7 @@ fn serve<S: Sink>(served: Served, out: &mut S, left: &mut Option<Kernel>) -> Res
 {
     bounds();
     bounds_by();
+    bounds_behind();
     match served {
         Served::Ran(kernel) => run(kernel, out, left),
         Served::Checked {
@@ -181,6 +230,8 @@ fn serve<S: Sink>(served: Served, out: &mut S, left: &mut Option<Kernel>) -> Res
         Served::Built(image) => write_all_of(out, image.as_slice()),
         Served::Executed(kernel) => execute(kernel, out, left),
         Served::Traced(kernel, text) => write_trace(kernel, &text, out, left),
+        Served::Saved(kernel, bytes) => write_state(kernel, &bytes, out, left),
+        Served::Resumed(kernel) => go_on(kernel, out, left),
         Served::Audited { acts, looks } => write_note(out, &Note::Legal { acts, looks }),
     }
 }
@@ -265,6 +316,24 @@ pub fn psyc<F: Shelf, S: Sink>(
         → (Rose (F.faults shelf.old) (F.faults shelf.new) → ⊥) → (Rose (S.faults out.old) (S.faults out.new) → ⊥)
         → ((result ≡ 0) × Grew (S.held out.old) (S.held out.new) (trace_by unit nexts sizes until lists said)
         × KeepsBounds (meaning_of unit nexts lists said) (order_of unit said) sizes until)
+        ⊎ ((result ≡ 8) × Grew (S.held out.old) (S.held out.new) []) }
+
+    // So is the state that a run leaves at a quiet date: what is written spells the opening of the dated meaning of the program's statements.
+    ensures saved { (files : Files) (unit : Whole) (nexts : List (List (List ℕ))) (sizes : Sizes) (date : ℕ) (lists : List (List ℤ)) (said : Script)
+        → F.files shelf.old ≡ Some files → (answering (map string_bytes words.now) (Some files)).gives (Saved unit nexts sizes date lists said)
+        → (Rose (F.faults shelf.old) (F.faults shelf.new) → ⊥) → (Rose (S.faults out.old) (S.faults out.new) → ⊥)
+        → ((result ≡ 0) × Grew (S.held out.old) (S.held out.new) (state_text unit nexts sizes date lists said)
+        × KeepsBounds (meaning_of unit nexts lists said) (order_of unit said) sizes date)
+        ⊎ ((result ≡ 8) × Grew (S.held out.old) (S.held out.new) []) }
+
+    // So is a run that goes on from a state, whatever its origin: what is written is the dated meaning that begins with the state's opening.
+    ensures resumed { (files : Files) (unit : Whole) (nexts : List (List (List ℕ))) (sizes : Sizes) (until : ℕ) (state : State) (lists : List (List ℤ))
+        (said : Script) → F.files shelf.old ≡ Some files
+        → (answering (map string_bytes words.now) (Some files)).gives (Resumed unit nexts sizes until state lists said)
+        → (Rose (F.faults shelf.old) (F.faults shelf.new) → ⊥) → (Rose (S.faults out.old) (S.faults out.new) → ⊥)
+        → ((result ≡ 0)
+        × Grew (S.held out.old) (S.held out.new) (run_text (meaning_behind unit nexts sizes until state lists said) (order_of unit said) sizes until)
+        × KeepsBoundsBehind (meaning_behind unit nexts sizes until state lists said) (order_of unit said) sizes until)
         ⊎ ((result ≡ 8) × Grew (S.held out.old) (S.held out.new) []) }
 
     // A limit: the refusal's line was written; where a file was too long, the shelf took one byte more than a file may have.

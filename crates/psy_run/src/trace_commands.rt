@@ -2,7 +2,7 @@
 ghost use Rattle.std.specs.Prelude.{◌≡◌, ◌≤◌, ℕ, List, length, IfErr, IfOk, OnOk, option_copied};
 ghost use Rattle.psy_base.specs.declared.limits.TheConstants.{FILE_BYTES};
 ghost use Rattle.psy_dates.specs.Plans.{IsPlan};
-ghost use Rattle.psy_graph.specs.declared.graph.Graph.{Graph};
+ghost use Rattle.psy_gen.specs.Emission.{code_of};
 ghost use Rattle.psy_history.specs.Scripts.{IsScript};
 ghost use Rattle.psy_kernel.specs.Runs.{ended};
 ghost use Rattle.psy_meaning.specs.Alike.{ActsAlike};
@@ -62,9 +62,10 @@ fn judge_text(
 ) -> Result<Legal, Stop>
     requires bytes { length text.now.items ≤ FILE_BYTES }
     requires text { IsOfText unit }
+    requires code { supply.code ≡ code_of unit }
     requires alike { ActsAlike unit supply.code }
     requires ways { AreWaysOf unit supply.ways }
-    requires supplied { (graphs : List Graph) × (supplying unit until).gives (supply_of graphs supply) }
+    requires supplied { (supplying unit until).gives (supply_of supply) }
     requires script { IsScript unit script.now }
     ensures ok { IfOk result (λ legal. (auditing (judged_by unit supply.ways.nexts supply.sizes until script.now) text.now.items).gives
         (record { acts = legal.acts; looks = legal.looks })) }

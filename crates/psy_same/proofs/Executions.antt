@@ -40,7 +40,7 @@ use Rattle.psy_sizes.specs.Faults.{CanCount, IsFaultBy}
 use Rattle.psy_tree.specs.declared.unit.AgentDecl.{AgentDecl}
 use Rattle.psy_tree.specs.declared.unit.Unit.{Unit as Whole}
 use Rattle.psy_verify.specs.Fits.{IsChecked}
-use Rattle.psy_same.proofs.Asking.{one_exec}
+use Rattle.psy_same.proofs.Asking.{one_command}
 use Rattle.psy_same.proofs.Supplies.{AreStated}
 use Rattle.psy_same.proofs.Tails.{exec_tail, tail_gives, tail_stops}
 use Rattle.psy_same.proofs.Texts.{ActAlike}
@@ -144,7 +144,7 @@ module _ (laws : LawsHold) (files : Files) (program image : List ℕ) (until : �
     module _ (ran executed : List (List ℕ)) (asks_first : Asks ran (Run program until inputs script))
         (asks_second : Asks executed (Exec image until inputs script)) where
       is_exec : (command : Command) → Asks executed command → command ≡ Exec image until inputs script
-      is_exec command asks = one_exec executed command image until inputs script asks asks_second
+      is_exec command asks = one_command executed command (Exec image until inputs script) asks asks_second
 
       -- It is an answer of `run`.
       pub answers : (status : ℕ) (said : List ℕ) → Answers executed (Some files) status said → Answers ran (Some files) status said

@@ -4,9 +4,16 @@ mod Emptied
 mod Executions
 mod Graphs
 mod Histories
+mod LeftStates
+mod Plans
+mod QuietDates
 mod Schedules
 mod Sizes
+mod SomeWays
+mod Stated
+mod Statuses
 mod Supplies
+mod TakenUp
 mod Tails
 mod Tellings
 mod Texts

@@ -66,7 +66,7 @@ module _ (files : Files) (unit : Whole) where
   unlisted (Some name) refusal (inl long) = inl long
   unlisted (Some name) refusal (inr (bytes, read, bad)) = inr (bytes, read, not_listed bytes refusal bad)
 
-  are_inputs : ((text : List ℕ) (lists : List (List ℤ)) → AreListsOf unit text lists → AreInputs unit lists) → (inputs : Option (List ℕ))
+  pub are_inputs : ((text : List ℕ) (lists : List (List ℤ)) → AreListsOf unit text lists → AreInputs unit lists) → (inputs : Option (List ℕ))
       (lists : List (List ℤ)) → (listing (Some files) unit inputs).gives lists → AreInputs unit lists
   unfolding in_row
   are_inputs law None lists is = subst (AreInputs unit) (sym is) (are_no_inputs unit)

@@ -1,7 +1,8 @@
 -- Reading what is told behind a flag, and what is cut of it.
 use Rattle.std.proofs.Common.{◌≡◌, ◌∙◌, ℕ, ◌-◌, ◌≤◌, Bool, true, false, cond, eqb, List, [], ◌∷◌, append-nil, length, Option, Some, None, Result, Ok, refl, sym, ap, subst, arith}
 use Rattle.psy_snap.specs.declared.fault.ReadError.{ReadError}
-use Rattle.psy_snap.specs.Cuts.{Ask, At, Cut, FIGURE, cut_at, cut_fields, cut_figures, flag_after, followed, last_number, long_below, where_one}
+use Rattle.psy_snap.specs.declared.limits.TheConstants.{FIGURE}
+use Rattle.psy_snap.specs.Cuts.{Ask, At, Cut, cut_at, cut_fields, cut_figures, flag_after, followed, last_number, long_below, where_one}
 use Rattle.psy_snap.specs.Faults.{faults_in}
 use Rattle.psy_snap.specs.Reading.{field_at, figures_at, go_on, slack_at}
 use Rattle.psy_snap.proofs.Parts.{Cuts, Fits, IsOnward, cuts_behind, field_cut, field_cuts, fits_map, good_field, onward_at, onward_behind, onward_fields, seen}

@@ -14,8 +14,9 @@ use Rattle.psy_dates.specs.declared.opening.AgentOpening.{AgentOpening}
 use Rattle.psy_dates.specs.declared.opening.StreamOpening.{StreamOpening}
 use Rattle.psy_queue.specs.Order.{comes_before, less_then}
 use Rattle.psy_snap.specs.declared.fault.ReadError.{ReadError}
+use Rattle.psy_snap.specs.declared.limits.TheConstants.{FAR}
 use Rattle.psy_snap.specs.Bytes.{long_bytes, message_bytes, number_bytes, stream_bytes, value_bytes}
-use Rattle.psy_snap.specs.Cuts.{Ask, FAR, any_number, long_below, message_asks, one_of, up_to}
+use Rattle.psy_snap.specs.Cuts.{Ask, any_number, long_below, message_asks, one_of, up_to}
 use Rattle.psy_snap.specs.Faults.{rises}
 use Rattle.psy_snap.specs.Forms.{StreamForm}
 use Rattle.psy_snap.specs.Ranges.{FitsMessage, FitsStream}

@@ -14,8 +14,9 @@ use mir.ValLaws.{of_z_fits}
 use Rattle.psy_history.specs.Openings.{HasFigure}
 use Rattle.psy_lists.proofs.lemmas.Tests.{differ}
 use Rattle.psy_snap.specs.declared.fault.ReadError.{ReadError}
+use Rattle.psy_snap.specs.declared.limits.TheConstants.{FIGURE}
 use Rattle.psy_snap.specs.Bytes.{long_bytes, number_bytes, reach_bytes, slack_bytes}
-use Rattle.psy_snap.specs.Cuts.{Ask, FIGURE, flag_after, long_below, one_of, up_to}
+use Rattle.psy_snap.specs.Cuts.{Ask, flag_after, long_below, one_of, up_to}
 use Rattle.psy_snap.specs.Ranges.{IfThere, IsLong, IsShort}
 use Rattle.psy_snap.specs.Reading.{each_at, field_at, figures_at, go_on, kept_ask, reach_at, said_at, slack_at, unless_wrong}
 use Rattle.psy_snap.proofs.Finds.{Both, Finds, Rights, finds_each, finds_field, finds_none, finds_said, finds_then, finds_weaker}

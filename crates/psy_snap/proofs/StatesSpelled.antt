@@ -18,8 +18,9 @@ use Rattle.psy_dates.specs.declared.opening.NextAction.{NextAction}
 use Rattle.psy_dates.specs.declared.opening.Opening.{Opening}
 use Rattle.psy_dates.specs.declared.opening.StreamOpening.{StreamOpening}
 use Rattle.psy_dates.specs.declared.opening.VarOpening.{VarOpening}
+use Rattle.psy_snap.specs.declared.limits.TheConstants.{FAR, FIGURE}
 use Rattle.psy_snap.specs.Bytes.{action_bytes, agent_bytes, begun_bytes, cell_bytes, kind_of, long_bytes, mark, message_bytes, number_bytes, reach_bytes, slack_bytes, spelling, stream_bytes, value_bytes, variable_bytes}
-use Rattle.psy_snap.specs.Cuts.{Ask, FAR, FIGURE, any_number, cell_of, copies_asks, flag_after, long_below, message_asks, one_of, up_to}
+use Rattle.psy_snap.specs.Cuts.{Ask, any_number, cell_of, copies_asks, flag_after, long_below, message_asks, one_of, up_to}
 use Rattle.psy_snap.specs.Forms.{AgentForm, Form, StreamForm, VarForm, published_by}
 use Rattle.psy_snap.specs.Ranges.{FitsAction, FitsAgent, FitsBegun, FitsMessage, FitsState, FitsStream, FitsVariable, IfThere, IsLong}
 use Rattle.psy_snap.specs.Reading.{action_at, agent_at, bad, begun_at, begun_in, cells_at, each_at, end_at, field_at, figures_at, found_at, go_on, head_at, held_at, is_misheld, is_misplaced, kept_ask, kind_at, last_of, message_at, messages_at, reach_at, ring_at, slack_at, state_at, stream_at, unless_wrong, values_at, variable_at, visible_at}

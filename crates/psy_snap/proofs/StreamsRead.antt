@@ -9,7 +9,8 @@ use Rattle.psy_base.specs.declared.message.Message.{Message}
 use Rattle.psy_dates.specs.declared.opening.AgentOpening.{AgentOpening}
 use Rattle.psy_dates.specs.declared.opening.StreamOpening.{StreamOpening}
 use Rattle.psy_snap.specs.declared.fault.ReadError.{ReadError}
-use Rattle.psy_snap.specs.Cuts.{Ask, At, Cut, FAR, Field, any_number, behind, cut_at, cut_each, cut_fields, cut_one, cut_stream, cut_streams, held_asks, last_number, long_below, message_asks, messages_by, on_behind, on_behind_stream, on_behind_streams, one_of, up_to}
+use Rattle.psy_snap.specs.declared.limits.TheConstants.{FAR}
+use Rattle.psy_snap.specs.Cuts.{Ask, At, Cut, Field, any_number, behind, cut_at, cut_each, cut_fields, cut_one, cut_stream, cut_streams, held_asks, last_number, long_below, message_asks, messages_by, on_behind, on_behind_stream, on_behind_streams, one_of, up_to}
 use Rattle.psy_snap.specs.Faults.{both_so, faults_in, has_begun, is_behind, is_wrong_message, key_in, messages_faults, nothing_cut, part_faults, receives, rises, stream_faults, streams_faults, value_at}
 use Rattle.psy_snap.specs.Forms.{StreamForm}
 use Rattle.psy_snap.specs.Reading.{begun_in, comes_after, field_at, found_at, go_on, held_at, is_misheld, keys_at, keys_of, last_of, message_at, messages_at, stream_at, unless_wrong, visible_at}

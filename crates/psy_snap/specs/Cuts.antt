@@ -1,11 +1,12 @@
 -- The bytes of a state cut into fields, as far as they go. What is cut depends on kinds, flags and counts alone, be they right or wrong.
-use Rattle.std.specs.Prelude.{ℕ, zero, suc, ◌+◌, ◌^◌, Bool, true, false, ◌||◌, ◌==◌, nat_lt, nat_le, if◌then◌else◌, List, [], ◌∷◌}
+use Rattle.std.specs.Prelude.{ℕ, zero, suc, ◌+◌, Bool, true, false, ◌||◌, ◌==◌, nat_lt, nat_le, if◌then◌else◌, List, [], ◌∷◌}
 use Rattle.std.specs.Prelude.{◌++◌, length, map, take, drop, replicate, Option, Some, None}
 use Rattle.std.specs.Int.{w32, w64, from_le_bytes, cast_signed}
 use Rattle.std.specs.List.{range_with_len}
 use Rattle.std.specs.Ordering.{int_eq}
 use Rattle.psy_arith.specs.declared.width.Width.{Width}
 use Rattle.psy_base.specs.declared.limits.TheConstants.{QUEUE, UNTIL}
+use Rattle.psy_snap.specs.declared.limits.TheConstants.{FAR, FIGURE}
 use Rattle.psy_snap.specs.Forms.{AgentForm, Form, StreamForm, VarForm, fits_type, published_by}
 
 -- A number that stands in the bytes: behind how many bytes, which one, None where it is cut, and whether it is in its range
@@ -120,10 +121,6 @@ flag_after count = record { long = false; range = λ n. n == (if count == 0 then
 abbrev pub where_one : Ask → ℕ → List Ask
 where_one ask flag = if flag == 1 then ask ∷ [] else []
 
--- How far figures go
-abbrev pub FIGURE : ℕ
-FIGURE = 2 ^ 50
-
 -- COUNT, and SLACK by a flag
 unfoldable pub cut_figures : At → Cut
 cut_figures at = followed (followed (cut_at (long_below FIGURE) at) (λ count. flag_after count ∷ [])) (where_one (long_below FIGURE))
@@ -143,10 +140,6 @@ unfoldable pub cut_variable : VarForm → ℕ → At → Cut
 cut_variable form date at = followed (cut_fields (map (ring_ask form date) (range_with_len 0 form.size) ++ up_to 1 ∷ []) at) (where_one (one_of form.size))
 
 -- ---- a stream
-
--- How far the dates of messages go
-abbrev pub FAR : ℕ
-FAR = 2 ^ 40
 
 -- Visibility, entry, sender, number, expiry and value
 abbrev pub message_asks : ℕ → List Ask

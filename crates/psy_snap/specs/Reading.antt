@@ -16,8 +16,9 @@ use Rattle.psy_snap.specs.declared.fault.ReadError.{ReadError}
 use Rattle.psy_snap.specs.declared.fault.ReadError.TheVariants as errors
 use Rattle.psy_snap.specs.declared.fault.StateFault.{StateFault}
 use Rattle.psy_snap.specs.declared.fault.StateFault.TheVariants as fault
+use Rattle.psy_snap.specs.declared.limits.TheConstants.{FAR, FIGURE}
 use Rattle.psy_snap.specs.Bytes.{mark}
-use Rattle.psy_snap.specs.Cuts.{Ask, FAR, FIGURE, any_number, cell_of, copies_asks, flag_after, long_below, message_asks, number_in, one_of}
+use Rattle.psy_snap.specs.Cuts.{Ask, any_number, cell_of, copies_asks, flag_after, long_below, message_asks, number_in, one_of}
 use Rattle.psy_snap.specs.Cuts.{up_to, width_of}
 use Rattle.psy_snap.specs.Faults.{both_so, rises, starts_wrong}
 use Rattle.psy_snap.specs.Forms.{AgentForm, Form, StreamForm, VarForm, published_by}

@@ -89,7 +89,7 @@ fn cells<'a>(
 }
 
 /// A value, behind others.
-pub fn value<'a>(values: &mut Items<i32>, bytes: &'a [u8]) -> Result<&'a [u8], ReadError>
+fn value<'a>(values: &mut Items<i32>, bytes: &'a [u8]) -> Result<&'a [u8], ReadError>
     ensures { Gives (λ rest. (values.new, rest.now)) result (said_at (cast_signed w32) any_number values.old bytes.now) }
 {
     let (number, rest) = any(bytes)?;

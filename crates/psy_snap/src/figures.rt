@@ -5,9 +5,7 @@ ghost use Rattle.psy_snap.specs.Reading.{Gives, figures_at, head_at, reach_at, s
 
 use crate::fault::ReadError;
 use crate::fields::{flag_after, long_below, one_of, up_to};
-
-/// Figures of agents are below this number.
-const FIGURE: u64 = 1 << 50;
+use crate::limits::FIGURE;
 
 /// The mark, and the date: it is at most the last date of the plan.
 #[tactic(auto, unfolding(crate::specs::Reading::head_at))]

@@ -1,12 +1,14 @@
 //! Laws of the definitions, each the contract of a function that does nothing.
-ghost use Rattle.std.specs.Prelude.{◌≡◌, ◌+◌, ◌∷◌, ℕ, ℤ, Err, List, None, Ok, Some, [], length, true};
+ghost use Rattle.std.specs.Prelude.{◌≡◌, ◌+◌, ◌∷◌, ◌<◌, ℕ, ℤ, Err, List, None, Ok, Some, [], length, true};
 ghost use Rattle.psy_budget.specs.declared.charge.Stall.{Stall};
 ghost use Rattle.psy_dates.specs.declared.opening.Opening.{Opening};
 ghost use Rattle.psy_dates.specs.declared.plan.Plan.{Plan};
-ghost use Rattle.psy_dates.specs.Beginnings.{behind};
-ghost use Rattle.psy_dates.specs.Plans.{IsSoundFor};
+ghost use Rattle.psy_dates.specs.Beginnings.{agent_in, behind};
+ghost use Rattle.psy_dates.specs.Plans.{IsPlan, IsSoundFor};
 ghost use Rattle.psy_graph.specs.declared.graph.Graph.{Graph};
 ghost use Rattle.psy_graph.specs.Graphs.{AreGraphsBy};
+ghost use Rattle.psy_meaning.specs.RingSizes.{agent_timing};
+ghost use Rattle.psy_meaning.specs.Timing.{first_date};
 ghost use Rattle.psy_snap.specs.declared.fault.ReadError.{ReadError};
 ghost use Rattle.psy_snap.specs.declared.fault.ReadError.TheVariants.{Bad};
 ghost use Rattle.psy_snap.specs.Bytes.{spelling};
@@ -18,6 +20,7 @@ ghost use Rattle.psy_snap.specs.Reading.{field_at};
 ghost use Rattle.psy_snap.specs.Rows.{AreFound, agents, fields, messages};
 ghost use Rattle.psy_snap.specs.Shapes.{HasForm};
 
+use psy_graph::laws::one_graph;
 use psy_sizes::laws::one_size_by;
 
 /// What is read of a field is what is cut of it, and it is good; what can't be read is at fault there.
@@ -45,6 +48,18 @@ pub fn sound()
         → least_fault (faults_of (form_of plan graphs) (spelling opening)) ≡ None → IsSoundFor plan (behind plan opening) inputs stalls }
 {
     one_size_by();
+}
+
+/// A state that has the form of a plan's, up to whatever last date, and numbers in their ranges, and behind which a run of the plan may go on, has no
+/// fault, where the first dates of its agents that haven't begun lie behind its date.
+pub fn faultless()
+    ensures { (plan : Plan) (graphs : List Graph) (until : ℕ) (opening : Opening) (inputs : List (List ℤ)) (stalls : ℕ → List Stall) → IsPlan plan
+        → AreGraphsBy plan.unit plan.nexts graphs → HasForm (form_of (record plan { until = until }) graphs) opening → FitsState opening
+        → ((agent : ℕ) → agent < length plan.unit.agents → (agent_in opening agent).begun ≡ None
+        → opening.date < first_date (agent_timing plan.unit plan.nexts agent)) → IsSoundFor plan (behind plan opening) inputs stalls
+        → least_fault (faults_of (form_of (record plan { until = until }) graphs) (spelling opening)) ≡ None }
+{
+    one_graph();
 }
 
 /// States of one form and without a fault that are spelled alike are the same.

@@ -7,6 +7,7 @@ mod fault;
 mod fields;
 mod figures;
 pub mod laws;
+pub mod limits;
 mod numbers;
 mod page;
 mod phases;

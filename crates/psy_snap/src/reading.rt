@@ -7,6 +7,7 @@ ghost use Rattle.psy_snap.specs.Bytes.{spelling};
 ghost use Rattle.psy_snap.specs.Faults.{faults_of, least_fault};
 ghost use Rattle.psy_snap.specs.Forms.{form_of};
 ghost use Rattle.psy_snap.specs.Plans.{IsReadable};
+ghost use Rattle.psy_snap.specs.Ranges.{FitsState};
 ghost use Rattle.psy_snap.specs.Shapes.{HasForm};
 ghost use Rattle.psy_snap.specs.Reading.{Gives, IsWithin, answer_of, end_at, fault_from, state_at};
 
@@ -92,6 +93,7 @@ pub fn read(
     ensures spelled { IfOk result (λ opening. spelling opening ≡ bytes.now) }
     ensures sound { OnOk result (least_fault (faults_of (form_of plan.now graphs.now) bytes.now) ≡ None) }
     ensures fits { IfOk result (HasForm (form_of plan.now graphs.now)) }
+    ensures ranges { IfOk result FitsState }
     ensures fault { (number place : ℕ) → result ≡ Err (Fault number place)
         → least_fault (faults_of (form_of plan.now graphs.now) bytes.now) ≡ Some (record { number = number; place = place }) }
 {

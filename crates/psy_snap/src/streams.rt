@@ -9,14 +9,12 @@ ghost use Rattle.psy_snap.specs.Reading.{last_of, message_at, messages_at, rises
 
 use crate::fault::ReadError;
 use crate::fields::{any, long_below, one_of, up_to};
+use crate::limits::FAR;
 use crate::numbers::{long_at, short_at};
 use psy_base::limits::QUEUE;
 use psy_base::{Items, Message};
 use psy_dates::{AgentOpening, Plan, StreamOpening};
 use std::alloc::Global;
-
-/// Dates of messages are below this number.
-const FAR: u64 = 1 << 40;
 
 /// Both numbers are there, and the first is below the second.
 fn is_below(first: Option<u64>, second: Option<u64>) -> bool

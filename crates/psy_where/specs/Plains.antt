@@ -63,8 +63,8 @@ IsPlain line plain = (note : Note) × IsNoteOf line note × (plain_in (says note
 abbrev pub plain_sentence : Plain → List ℕ
 plain_sentence Words =
     codes "psyc has, with UNTIL up to a million, `run PROGRAM UNTIL [INPUTS [SCRIPT]]`, `check PROGRAM UNTIL`, `graph PROGRAM`, "
-    ++ (codes "`make SEED`, `trial SEED UNTIL`, `build PROGRAM`, `exec IMAGE UNTIL [INPUTS [SCRIPT]]`, `trace PROGRAM UNTIL [INPUTS [SCRIPT]]` "
-    ++ codes "and `audit PROGRAM UNTIL TRACE [SCRIPT]`")
+    ++ (codes "`make SEED`, `trial SEED UNTIL`, `build PROGRAM`, `exec IMAGE UNTIL [INPUTS [SCRIPT]]`, `trace PROGRAM UNTIL [INPUTS [SCRIPT]]`, "
+    ++ codes "`audit PROGRAM UNTIL TRACE [SCRIPT]`, `save PROGRAM DATE [INPUTS [SCRIPT]]` and `resume PROGRAM STATE UNTIL [INPUTS [SCRIPT]]`")
 plain_sentence ReadProgram = codes "psyc couldn't read the program: look whether a file of this name is there, is no folder, and may be read by you"
 plain_sentence ReadImage = codes "psyc couldn't read the image: look whether a file of this name is there, is no folder, and may be read by you"
 plain_sentence ReadInputs = codes "psyc couldn't read the inputs: look whether a file of this name is there, is no folder, and may be read by you"

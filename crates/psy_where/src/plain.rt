@@ -114,8 +114,8 @@ pub fn plain_sentence(plain: Plain) -> &'static [u8]
     match plain {
         Plain::Words =>
             b"psyc has, with UNTIL up to a million, `run PROGRAM UNTIL [INPUTS [SCRIPT]]`, `check PROGRAM UNTIL`, `graph PROGRAM`, \
-            `make SEED`, `trial SEED UNTIL`, `build PROGRAM`, `exec IMAGE UNTIL [INPUTS [SCRIPT]]`, `trace PROGRAM UNTIL [INPUTS [SCRIPT]]` \
-            and `audit PROGRAM UNTIL TRACE [SCRIPT]`",
+            `make SEED`, `trial SEED UNTIL`, `build PROGRAM`, `exec IMAGE UNTIL [INPUTS [SCRIPT]]`, `trace PROGRAM UNTIL [INPUTS [SCRIPT]]`, \
+            `audit PROGRAM UNTIL TRACE [SCRIPT]`, `save PROGRAM DATE [INPUTS [SCRIPT]]` and `resume PROGRAM STATE UNTIL [INPUTS [SCRIPT]]`",
         Plain::ReadProgram =>
             b"psyc couldn't read the program: look whether a file of this name is there, is no folder, and may be read by you",
         Plain::ReadImage =>

@@ -103,7 +103,7 @@ near_command word = find (λ command. is_near word (name_of command)) COMMANDS
 -- The words that ask psyc for what psyview doesn't do
 abbrev pub OTHERS : List (List ℕ)
 OTHERS =
-    codes "graph" ∷ codes "make" ∷ codes "trial" ∷ codes "build" ∷ codes "exec" ∷ codes "trace" ∷ codes "audit" ∷ []
+    codes "graph" ∷ codes "make" ∷ codes "trial" ∷ codes "build" ∷ codes "exec" ∷ codes "trace" ∷ codes "audit" ∷ codes "save" ∷ codes "resume" ∷ []
 
 -- A command that psyc has, and psyview hasn't
 abbrev pub is_of_psyc : List ℕ → Bool

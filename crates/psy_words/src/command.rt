@@ -183,6 +183,14 @@ pub fn is_of_psyc(word: &[u8]) -> bool
 {
     matches!(
         word,
-        b"graph" | b"make" | b"trial" | b"build" | b"exec" | b"trace" | b"audit"
+        b"graph"
+            | b"make"
+            | b"trial"
+            | b"build"
+            | b"exec"
+            | b"trace"
+            | b"audit"
+            | b"save"
+            | b"resume"
     )
 }

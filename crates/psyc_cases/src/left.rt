@@ -1,12 +1,14 @@
 //! What a call of `psyc` is to leave.
 use psy_kernel::{Kernel, Stage};
 
-// The words ask for a run, of a program or of an image, for a trace or for a trial.
+// The words ask for a run, of a program or of an image or from a state, for a trace, for a state or for a trial.
 fn is_run(words: &[String]) -> bool {
     match words {
         [command, ..] => {
             let word = command.as_str();
-            word == "run" || word == "trial" || word == "exec" || word == "trace"
+            let runs = word == "run" || word == "trial" || word == "exec";
+            let tells = word == "trace" || word == "save" || word == "resume";
+            runs || tells
         }
         [] => false,
     }

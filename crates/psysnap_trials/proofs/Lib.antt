@@ -1,2 +1,3 @@
 -- The lemmas of this crate, by subject.
+mod InputPlanned
 mod Planned

@@ -8,13 +8,13 @@ use Rattle.psy_meaning.specs.ListedWays.{AreByPoint, AreWaysFor}
 use Rattle.psy_meaning.specs.Units.{IsBare}
 use Rattle.psysnap_trials.specs.Nothing.{plan}
 
-abbrev ways : Ways
+abbrev pub ways : Ways
 ways = record { nexts = []; looks = []; sends = []; delays = [] }
 
-all_none : {X : Type 0} (P : X → Type 0) → All P []
+pub all_none : {X : Type 0} (P : X → Type 0) → All P []
 all_none P = λ i d less. absurd (omega (arith, less))
 
-by_none : {X : Type 0} (Are : ℕ → ℕ → X → Type 0) → AreByPoint [] Are []
+pub by_none : {X : Type 0} (Are : ℕ → ℕ → X → Type 0) → AreByPoint [] Are []
 by_none Are = record { counts = refl; each = λ agent point list one at there. absurd cc }
 
 bare : IsBare plan.unit

@@ -1,2 +1,3 @@
 -- The definitions of this crate, by subject.
+pub mod Input
 pub mod Nothing

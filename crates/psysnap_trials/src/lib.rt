@@ -2,6 +2,8 @@
 #![tactic(auto)]
 
 #[cfg(test)]
+mod input;
+#[cfg(test)]
 mod made;
 #[cfg(test)]
 mod plans;

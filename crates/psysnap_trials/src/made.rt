@@ -1,12 +1,14 @@
 //! States that were made by hand.
-ghost use Rattle.std.specs.Prelude.{◌<◌, ◌^◌, IfSome};
+ghost use Rattle.std.specs.Prelude.{◌≡◌, ◌<◌, ◌^◌, ◌∷◌, [], IfSome};
 
 use psy_base::{Items, Message};
 use psy_dates::{AgentOpening, Begun, NextAction, Opening, StreamOpening, VarOpening};
 use std::alloc::Global;
 
-// A list of one.
-fn alone<T: Drop>(alloc: Global, item: T) -> Option<Items<T>> {
+/// A list of one.
+pub fn alone<T: Drop>(alloc: Global, item: T) -> Option<Items<T>>
+    ensures { IfSome result (λ items. items ≡ item ∷ []) }
+{
     let mut items = Items::new(alloc);
     items.push(item).ok()?;
     Some(items)
@@ -74,6 +76,18 @@ pub fn something(alloc: Global) -> Option<Opening>
         agents: alone(alloc, starting(alloc)?)?,
         variables: alone(alloc, published(alloc)?)?,
         streams: alone(alloc, holding(alloc)?)?,
+    })
+}
+
+/// A state at date 7 with a variable.
+pub fn reached(alloc: Global) -> Option<Opening>
+    ensures { IfSome result (λ state. state.date < 2 ^ 32) }
+{
+    Some(Opening {
+        date: 7,
+        agents: Items::new(alloc),
+        variables: alone(alloc, published(alloc)?)?,
+        streams: Items::new(alloc),
     })
 }
 

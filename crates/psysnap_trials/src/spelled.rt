@@ -1,5 +1,5 @@
 //! The bytes of states that were made by hand.
-use crate::made::{nothing, something, waiting};
+use crate::made::{nothing, reached, something, waiting};
 use psy_snap::spell;
 use std::test::Fail;
 
@@ -22,6 +22,12 @@ const WAITING: [u8; 25] = [
     80, 83, 89, 83, 1, 7, 0, 0, 0, 0, 0, 0, 0, 0, 0, 0, 0, 0, 0, 0, 0, 0, 0, 0, 0,
 ];
 
+// The mark and date 7; values of 4 and -2, and a reach of 1
+const REACHED: [u8; 25] = [
+    80, 83, 89, 83, 1, 7, 0, 0, 0, // mark and date
+    4, 0, 0, 0, 254, 255, 255, 255, 1, 0, 0, 0, 1, 0, 0, 0, // the variable
+];
+
 // Nothing is said of these bytes, so that no proof computes with them.
 fn bytes_of_nothing() -> [u8; 9] {
     NOTHING
@@ -33,6 +39,11 @@ fn bytes_of_something() -> [u8; 117] {
 
 fn bytes_of_waiting() -> [u8; 25] {
     WAITING
+}
+
+/// The bytes of the state with a variable.
+pub fn bytes_of_reached() -> [u8; 25] {
+    REACHED
 }
 
 #[test]
@@ -56,5 +67,13 @@ fn an_agent_that_has_not_begun_has_its_figures_alone(rt: HostRuntime) -> Result<
     let state = waiting(rt.alloc()).ok_or("memory is there")?;
     let bytes = spell(rt.alloc(), &state).ok().ok_or("memory is there")?;
     assert_eq!(rt; bytes.as_slice(), bytes_of_waiting().as_slice());
+    Ok(())
+}
+
+#[test]
+fn a_variable_has_its_values_and_its_reach(rt: HostRuntime) -> Result<(), Fail> {
+    let state = reached(rt.alloc()).ok_or("memory is there")?;
+    let bytes = spell(rt.alloc(), &state).ok().ok_or("memory is there")?;
+    assert_eq!(rt; bytes.as_slice(), bytes_of_reached().as_slice());
     Ok(())
 }

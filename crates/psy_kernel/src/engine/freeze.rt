@@ -1,17 +1,15 @@
 //! What a run leaves that is done.
-ghost use Rattle.std.specs.Prelude.{◌≡◌, ℕ, ◌+◌, ◌<◌, ◌≤◌, [], Err, IfOk, MatchOption, OnOk, Some, get_or, length, map, slice_get, true};
+ghost use Rattle.std.specs.Prelude.{◌≡◌, ℕ, ◌+◌, ◌<◌, ◌≤◌, [], Err, IfOk, MatchOption, OnOk, Some, get_or, length, map};
 ghost use Rattle.std.specs.List.{All, range_with_len};
 ghost use Rattle.psy_base.specs.declared.limits.TheConstants.{AGENTS};
 ghost use Rattle.psy_code.specs.declared.code.CopyInit.{CopyInit as copy};
 ghost use Rattle.psy_dates.specs.Beginnings.{behind};
 ghost use Rattle.psy_history.specs.Resuming.{IsQuiet};
-ghost use Rattle.psy_kernel.specs.declared.engine.Runner.{Runner as runner};
 ghost use Rattle.psy_kernel.specs.declared.fault.FreezeFault.TheVariants.{Busy};
 ghost use Rattle.psy_kernel.specs.Engines.{history_of};
 ghost use Rattle.psy_kernel.specs.Freezing.{BeginWithFirst, IsFirstBusy, IsFirstUnderWay, MayLeave, NoneUnderWay, action_left, agent_by, agent_left};
-ghost use Rattle.psy_kernel.specs.Freezing.{begun_left, copies_left, is_under_way, left_on, stream_left, variable_left};
+ghost use Rattle.psy_kernel.specs.Freezing.{begun_left, copies_left, is_under_way, left_on, state_by, stream_left, variable_left};
 ghost use Rattle.psy_kernel.specs.Resuming.{HasShapeOf};
-ghost use Rattle.psy_kernel.specs.Starting.{is_acting, seat_at};
 ghost use Rattle.psy_meaning.specs.CodeWays.{agent_code_at};
 
 use super::{Engine, Runner};
@@ -62,29 +60,8 @@ fn copies_left(alloc: Global, own: &[CopyInit], committed: &[i32]) -> Result<Ite
     Ok(copies)
 }
 
-/// The cells of a machine. More than a number of 32 bits can name are more than there is memory for.
-fn cells_left(alloc: Global, cells: usize, machine: &Machine) -> Result<Items<i64>, Memory>
-    requires { length machine.now.machine.home.cells ≡ cells }
-    ensures { IfOk result (λ values. values ≡ machine.now.machine.home.cells) }
-{
-    if cells > u32::MAX as usize {
-        return Err(Memory);
-    }
-    let mut values = Items::new(alloc);
-    'cells: for cell in 0..cells {
-        values.push(machine.cell(cell as u32))?;
-    }
-    Ok(values)
-}
-
 /// The action that an agent starts, if it starts one.
-fn action_left(
-    alloc: Global,
-    code: &AgentCode,
-    seat: &Seat,
-    machine: &Machine,
-) -> Result<Option<NextAction>, Memory>
-    requires { is_acting seat.now.phase ≡ true → length machine.now.machine.home.cells ≡ length code.now.cells }
+fn action_left(alloc: Global, seat: &Seat, machine: &Machine) -> Result<Option<NextAction>, Memory>
     ensures { IfOk result (λ action. action ≡ action_left seat.now machine.now.machine.home.cells) }
 {
     if !matches!(seat.phase, Phase::Acting) {
@@ -93,7 +70,7 @@ fn action_left(
     Ok(Some(NextAction {
         number: seat.number,
         point: seat.point,
-        cells: cells_left(alloc, code.cells.len(), machine)?,
+        cells: Items::from_slice(alloc, machine.cells())?,
     }))
 }
 
@@ -105,8 +82,7 @@ fn begun_left(
     seat: &Seat,
     machine: &Machine,
 ) -> Result<Option<Begun>, Memory>
-    requires copies { All (λ (c : copy). c.variable < length committed.now) code.now.copies }
-    requires cells { is_acting seat.now.phase ≡ true → length machine.now.machine.home.cells ≡ length code.now.cells }
+    requires { MayLeave code.now committed.now }
     ensures { IfOk result (λ begun. begun ≡ begun_left code.now.copies committed.now seat.now machine.now.machine.home.cells) }
 {
     if matches!(seat.phase, Phase::Waiting) {
@@ -114,7 +90,7 @@ fn begun_left(
     }
     Ok(Some(Begun {
         copies: copies_left(alloc, code.copies.as_slice(), committed)?,
-        action: action_left(alloc, code, seat, machine)?,
+        action: action_left(alloc, seat, machine)?,
     }))
 }
 
@@ -126,7 +102,7 @@ fn agent_left(
     seat: &Seat,
     runner: &Runner,
 ) -> Result<AgentOpening, Memory>
-    requires { MayLeave code.now committed.now seat.now runner.now }
+    requires { MayLeave code.now committed.now }
     ensures { IfOk result (λ agent. agent ≡ agent_by code.now committed.now seat.now (Some runner.now)) }
 {
     Ok(AgentOpening {
@@ -146,8 +122,7 @@ fn agents_left(
 ) -> Result<Items<AgentOpening>, Memory>
     requires coded { length code.now.agents ≡ length runners.now }
     requires seated { length seats.now ≡ length runners.now }
-    requires may { (agent : ℕ) (of : runner) → slice_get runners.now agent ≡ Some of
-        → MayLeave (agent_code_at code.now agent) committed.now (seat_at seats.now agent) of }
+    requires may { (agent : ℕ) → agent < length runners.now → MayLeave (agent_code_at code.now agent) committed.now }
     ensures { IfOk result (λ agents. agents ≡ map (agent_left code.now committed.now seats.now runners.now) (range_with_len 0 (length runners.now))) }
 {
     let codes = code.agents.as_slice();
@@ -242,11 +217,12 @@ impl Engine {
         first_under_way(&self.shared.seats, u64::from(self.plan.until))
     }
 
-    /// The state behind the last date of the run, once that is done and no action is under way there.
+    /// The one state of what the run leaves, once its last date is done and no action is under way there.
     fn left(&self, alloc: Global) -> Result<Opening, Memory>
         requires over { self.now.dates ≡ self.now.plan.until + 1 }
         requires quiet { IsQuiet (history_of self.now) self.now.plan.until }
         ensures shape { IfOk result (HasShapeOf self.now.plan) }
+        ensures state { IfOk result (λ opening. opening ≡ state_by self.now.plan (left_on self.now)) }
         ensures opened { BeginWithFirst self.now.plan → IfOk result (λ opening. behind self.now.plan opening ≡ left_on self.now) }
     {
         fitting();
@@ -277,13 +253,14 @@ impl Engine {
         })
     }
 
-    /// The state behind the last date of the run, once that is done. Busy comes exactly where that date isn't quiet, with the first agent whose
+    /// The one state of what the run leaves, once its last date is done. Busy comes exactly where that date isn't quiet, with the first agent whose
     /// action is under way there.
     pub(crate) fn freeze(&self, alloc: Global) -> Result<Opening, FreezeFault>
         requires over { self.now.dates ≡ self.now.plan.until + 1 }
         ensures quiet { OnOk result (IsQuiet (history_of self.now) self.now.plan.until) }
         ensures busy { (agent : ℕ) → result ≡ Err (Busy agent) → IsFirstBusy (history_of self.now) self.now.plan.until agent }
         ensures shape { IfOk result (HasShapeOf self.now.plan) }
+        ensures state { IfOk result (λ opening. opening ≡ state_by self.now.plan (left_on self.now)) }
         ensures opened { BeginWithFirst self.now.plan → IfOk result (λ opening. behind self.now.plan opening ≡ left_on self.now) }
     {
         match self.first_busy() {

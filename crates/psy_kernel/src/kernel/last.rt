@@ -1,5 +1,5 @@
 //! What was done last, and what a kernel has.
-ghost use Rattle.std.specs.Prelude.{◌≡◌};
+ghost use Rattle.std.specs.Prelude.{◌≡◌, ◌+◌, ◌≤◌};
 ghost use Rattle.psy_dates.specs.Plans.{IsPlan};
 ghost use Rattle.psy_dates.specs.Standing.{SharedStands};
 ghost use Rattle.psy_history.specs.Compiled.{AreInputs};
@@ -32,12 +32,13 @@ impl Kernel {
         }
     }
 
-    /// The plan that is run: it fits, and inputs and script are such as it may be run with. It takes no memory.
+    /// The plan that is run: it fits, inputs and script are such as it may be run with, and no date behind its last one was done. It takes no memory.
     pub fn plan(&self) -> &Plan
         ensures plan { result.now ≡ self.now.plan }
         ensures fits { IsPlan self.now.plan }
         ensures inputs { AreInputs self.now.plan.unit self.now.inputs }
         ensures script { IsScript self.now.plan.unit self.now.script }
+        ensures within { self.now.dates ≤ self.now.plan.until + 1 }
     {
         self.engine.plan()
     }

@@ -1,7 +1,7 @@
 -- What is left of the proof of `asked::of_three`.
 use Rattle.std.proofs.Common.{[], ◌∷◌, ap, codes}
 use Rattle.psy_lists.proofs.lemmas.Texts.{same_text}
-use Rattle.psy_run.specs.Asked.{asks_run, asks_exec, asks_check, asks_trial, asks_trace}
+use Rattle.psy_run.specs.Asked.{asks_run, asks_exec, asks_check, asks_save, asks_trial, asks_trace}
 use Rattle.psy_run.proofs.AskedLemmas.{undated_three, untried}
 use Rattle.psy_run.proofs.asked.of_three.Goals as goal
 
@@ -30,6 +30,11 @@ pub returns-then-eq-5 : goal.returns-then-eq-5
 returns-then-eq-5 c =
     let command = same_text c.args.command.now (codes "trace") c.if-eq-5.ensures in
     asks_trace c.args.word.now c.args.until.now c.in_ok-until.until (ap (λ w. w ∷ c.args.word.now ∷ c.args.until.now ∷ []) command) (rw c.as_bytes.ensures.value at c.in_ok-until.ensures)
+
+pub returns-then-eq-6 : goal.returns-then-eq-6
+returns-then-eq-6 c =
+    let command = same_text c.args.command.now (codes "save") c.if-eq-6.ensures in
+    asks_save c.args.word.now c.args.until.now c.in_ok-until.until (ap (λ w. w ∷ c.args.word.now ∷ c.args.until.now ∷ []) command) (rw c.as_bytes.ensures.value at c.in_ok-until.ensures)
 
 pub returns-in_err-until : goal.returns-in_err-until
 returns-in_err-until c = rw c.from_residual.ensures (undated_three c.args.command.now c.args.word.now c.args.until.now (rw c.as_bytes.ensures.value at c.in_err-until.ensures))

@@ -17,9 +17,9 @@ returns-in_err-supply-clause-err g c = halts_exit _ _ _ _ _ _ c.from_residual-in
 pub returns-clause-ok : goal.returns-clause-ok
 returns-clause-ok g c =
     let supply = c.in_ok-supply.supply in
-    let (graphs, gives) = c.in_ok-supply.ensures.ok in
+    let gives = c.in_ok-supply.ensures.ok in
     gives_then (compiling _ _) _ _ _ c.in_ok-unit.ensures.ok
-    (gives_then (supplying _ _) _ (supply_of graphs supply) _ gives refl)
+    (gives_then (supplying _ _) _ (supply_of supply) _ gives refl)
 
 pub returns-in_err-unit-clause-long : goal.returns-in_err-unit-clause-long
 returns-in_err-unit-clause-long g c = took_exit _ _ _ c.from_residual.ensures.1 c.in_err-unit.ensures.long

@@ -3,7 +3,7 @@ use Rattle.std.proofs.Common.{refl, subst, []}
 use Rattle.std.specs.Prelude.{map, string_bytes, option_copied}
 use Rattle.psy_run.specs.declared.refusal.Refusal.TheVariants.{Words}
 use Rattle.psy_run.specs.Answer.{making, trying}
-use Rattle.psy_run.specs.Asked.{Asks, asked_by, Run, Check, Graph, Make, Trial, Build, Exec, Audit, Trace}
+use Rattle.psy_run.specs.Asked.{Asks, asked_by, Run, Check, Graph, Make, Trial, Build, Exec, Audit, Trace, Save, Resume}
 use Rattle.psy_run.specs.Outcome.{halts_refused}
 use Rattle.psy_run.specs.Services.{service_of}
 use Rattle.psy_run.specs.Steps.{asking}
@@ -83,3 +83,15 @@ returns-in-Some-Trace-clause-ok g c = gives_last (asking _) _ (Trace c.in-Some-T
 
 pub returns-in-Some-Trace-clause-err : goal.returns-in-Some-Trace-clause-err
 returns-in-Some-Trace-clause-err g c = halts_last (asking _) _ _ _ _ (Trace c.in-Some-Trace.program.now c.in-Some-Trace.until (option_copied c.in-Some-Trace.inputs) (option_copied c.in-Some-Trace.script)) _ (subst (λ read. Asks (map string_bytes c.args.words.now) (asked_by read)) c.in-Some-Trace.field-0-is c.in-Some-Trace.ensures) c.trace.ensures.err
+
+pub returns-in-Some-Save-clause-ok : goal.returns-in-Some-Save-clause-ok
+returns-in-Some-Save-clause-ok g c = gives_last (asking _) _ (Save c.in-Some-Save.program.now c.in-Some-Save.date (option_copied c.in-Some-Save.inputs) (option_copied c.in-Some-Save.script)) service_of _ (subst (λ read. Asks (map string_bytes c.args.words.now) (asked_by read)) c.in-Some-Save.field-0-is c.in-Some-Save.ensures) c.save.ensures.ok
+
+pub returns-in-Some-Save-clause-err : goal.returns-in-Some-Save-clause-err
+returns-in-Some-Save-clause-err g c = halts_last (asking _) _ _ _ _ (Save c.in-Some-Save.program.now c.in-Some-Save.date (option_copied c.in-Some-Save.inputs) (option_copied c.in-Some-Save.script)) _ (subst (λ read. Asks (map string_bytes c.args.words.now) (asked_by read)) c.in-Some-Save.field-0-is c.in-Some-Save.ensures) c.save.ensures.err
+
+pub returns-in-Some-Resume-clause-ok : goal.returns-in-Some-Resume-clause-ok
+returns-in-Some-Resume-clause-ok g c = gives_last (asking _) _ (Resume c.in-Some-Resume.program.now c.in-Some-Resume.state.now c.in-Some-Resume.until (option_copied c.in-Some-Resume.inputs) (option_copied c.in-Some-Resume.script)) service_of _ (subst (λ read. Asks (map string_bytes c.args.words.now) (asked_by read)) c.in-Some-Resume.field-0-is c.in-Some-Resume.ensures) c.resume.ensures.ok
+
+pub returns-in-Some-Resume-clause-err : goal.returns-in-Some-Resume-clause-err
+returns-in-Some-Resume-clause-err g c = halts_last (asking _) _ _ _ _ (Resume c.in-Some-Resume.program.now c.in-Some-Resume.state.now c.in-Some-Resume.until (option_copied c.in-Some-Resume.inputs) (option_copied c.in-Some-Resume.script)) _ (subst (λ read. Asks (map string_bytes c.args.words.now) (asked_by read)) c.in-Some-Resume.field-0-is c.in-Some-Resume.ensures) c.resume.ensures.err

@@ -24,9 +24,9 @@ returns-in_err-supply-clause-err c failed before after = halts_exit _ _ _ _ _ _ 
 pub returns-in_err-pace-clause-err : goal.returns-in_err-pace-clause-err
 returns-in_err-pace-clause-err c failed before after =
     let supply = c.in_ok-supply.supply in
-    let (graphs, gives) = c.in_ok-supply.ensures.ok in
+    let gives = c.in_ok-supply.ensures.ok in
     halts_exit _ _ _ _ _ _ c.from_residual-in_err-pace.ensures.1
-    (trial_unpaced c.args.seed c.args.until _ c.in_ok-text.ensures _ c.in_ok-unit.ensures.ok (supply_of graphs supply) gives _ _ _ _ (c.in_err-pace.ensures.err _ _ _))
+    (trial_unpaced c.args.seed c.args.until _ c.in_ok-text.ensures _ c.in_ok-unit.ensures.ok (supply_of supply) gives _ _ _ _ (c.in_err-pace.ensures.err _ _ _))
 
 pub returns-in_err-inputs-clause-err : goal.returns-in_err-inputs-clause-err
 returns-in_err-inputs-clause-err c failed before after = halts_exit _ _ _ _ Memory _ c.from_residual-in_err-inputs.ensures.1 halts_memory
@@ -37,11 +37,11 @@ boot-requires-clause-inputs c = subst (AreInputs c.in_ok-unit.unit) (sym c.in_ok
 pub returns-in-Ok-clause-ok : goal.returns-in-Ok-clause-ok
 returns-in-Ok-clause-ok c =
     let supply = c.in_ok-supply.supply in
-    let (graphs, gives) = c.in_ok-supply.ensures.ok in
+    let gives = c.in_ok-supply.ensures.ok in
     let plan = c.in-Ok.kernel.plan in
     let its = c.in-Ok.ensures in
     let same : Tried plan.unit plan.nexts plan.sizes plan.until ≡ Tried c.in_ok-unit.unit supply.ways.nexts supply.sizes c.args.until = λ i. Tried (its.its_unit i) (its.its_nexts i) (its.its_sizes i) (its.its_until i) in
-    trial_gives c.args.seed c.args.until _ c.in_ok-text.ensures _ c.in_ok-unit.ensures.ok (supply_of graphs supply) gives _ c.in_ok-pace.ensures.ok same
+    trial_gives c.args.seed c.args.until _ c.in_ok-text.ensures _ c.in_ok-unit.ensures.ok (supply_of supply) gives _ c.in_ok-pace.ensures.ok same
 
 pub returns-in-Ok-clause-can : goal.returns-in-Ok-clause-can
 returns-in-Ok-clause-can c =

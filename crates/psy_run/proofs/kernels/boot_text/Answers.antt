@@ -27,11 +27,11 @@ boot-requires-clause-inputs c = subst (AreInputs c.in_ok-unit.unit) (sym c.in_ok
 pub returns-in-Ok-clause-given : goal.returns-in-Ok-clause-given
 returns-in-Ok-clause-given c =
     let supply = c.in_ok-supply.supply in
-    let (graphs, gives) = c.in_ok-supply.ensures.ok in
+    let gives = c.in_ok-supply.ensures.ok in
     let plan = c.in-Ok.kernel.plan in
     let its = c.in-Ok.ensures in
     let same : planned_run plan ≡ Tried c.in_ok-unit.unit supply.ways.nexts supply.sizes c.args.until = λ i. Tried (its.its_unit i) (its.its_nexts i) (its.its_sizes i) (its.its_until i) in
-    plan_gives c.args.text.now.items c.args.until _ c.in_ok-unit.ensures.ok (supply_of graphs supply) gives _ same
+    plan_gives c.args.text.now.items c.args.until _ c.in_ok-unit.ensures.ok (supply_of supply) gives _ same
 
 pub returns-in-Err-clause-err : goal.returns-in-Err-clause-err
 returns-in-Err-clause-err c failed before after = halts_memory

@@ -3,10 +3,10 @@ use Rattle.psy_run.proofs.DecidedAnswers.{Answers-same, Answers-some, refused-on
 use Rattle.psy_run.proofs.DecidedImages.{ImagesDecide}
 use Rattle.psy_run.proofs.DecidedSteps.{PlansDecide}
 use Rattle.psy_run.proofs.laws.one_answer.Goals as goal
-use Rattle.psy_run.proofs.laws.one_answer.Goals.{After-ranges-2}
+use Rattle.psy_run.proofs.laws.one_answer.Goals.{After-distinct}
 
 -- What the laws say of the plan's steps
-decide : After-ranges-2 → PlansDecide
+decide : After-distinct → PlansDecide
 decide c = record {
   of_text = c.programs.ensures;
   short = c.short.ensures;
@@ -17,7 +17,7 @@ decide c = record {
 }
 
 -- And of those on images
-images : After-ranges-2 → ImagesDecide
+images : After-distinct → ImagesDecide
 images c = record {
   image = c.one_image.ensures.image;
   place = c.one_image.ensures.place;
@@ -33,10 +33,10 @@ images c = record {
 }
 
 pub returns-clause-same : goal.returns-clause-same
-returns-clause-same c words files = let laws = (goal.at.returns-clause-same c).After-ranges-2 in Answers-same (decide laws) (images laws) files words
+returns-clause-same c words files = let laws = (goal.at.returns-clause-same c).After-distinct in Answers-same (decide laws) (images laws) laws.distinct.ensures files words
 
 pub returns-clause-some : goal.returns-clause-some
-returns-clause-some c words files = let laws = (goal.at.returns-clause-some c).After-ranges-2 in Answers-some (decide laws) (images laws) files words
+returns-clause-some c words files = let laws = (goal.at.returns-clause-some c).After-distinct in Answers-some (decide laws) (images laws) laws.distinct.ensures files words
 
 pub returns-clause-refused : goal.returns-clause-refused
-returns-clause-refused c = refused-one (decide (goal.at.returns-clause-refused c).After-ranges-2)
+returns-clause-refused c = refused-one (decide (goal.at.returns-clause-refused c).After-distinct)

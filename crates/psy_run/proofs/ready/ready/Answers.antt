@@ -22,47 +22,47 @@ pub returns-in_err-inputs-clause-err : goal.returns-in_err-inputs-clause-err
 returns-in_err-inputs-clause-err g c =
     let unit = c.in_ok-unit.unit in
     let supply = c.in_ok-supply.supply in
-    let (graphs, gives) = c.in_ok-supply.ensures.ok in
+    let gives = c.in_ok-supply.ensures.ok in
     let inputs = option_copied c.args.inputs in
     halts_exit _ _ _ _ _ _ c.from_residual-in_err-inputs.ensures.1
-    (run_unlisted _ c.args.name.now c.args.until inputs (option_copied c.args.script) unit (supply_of graphs supply) c.in_ok-unit.ensures.ok gives _ _ _ _
+    (run_unlisted _ c.args.name.now c.args.until inputs (option_copied c.args.script) unit (supply_of supply) c.in_ok-unit.ensures.ok gives _ _ _ _
     (halts_behind (λ files. listing files unit inputs) c.in_ok-unit.ensures.shelf c.in_err-inputs.ensures.err))
 
 pub returns-in_err-script-clause-err : goal.returns-in_err-script-clause-err
 returns-in_err-script-clause-err g c =
     let unit = c.in_ok-unit.unit in
     let supply = c.in_ok-supply.supply in
-    let (graphs, gives) = c.in_ok-supply.ensures.ok in
+    let gives = c.in_ok-supply.ensures.ok in
     let inputs = option_copied c.args.inputs in
     let script = option_copied c.args.script in
     let listed = gives_behind (λ files. listing files unit inputs) c.in_ok-unit.ensures.shelf c.in_ok-inputs.ensures.ok in
     halts_exit _ _ _ _ _ _ c.from_residual-in_err-script.ensures.1
-    (run_unscripted _ c.args.name.now c.args.until inputs script unit (supply_of graphs supply) c.in_ok-unit.ensures.ok gives _ listed _ _ _ _
+    (run_unscripted _ c.args.name.now c.args.until inputs script unit (supply_of supply) c.in_ok-unit.ensures.ok gives _ listed _ _ _ _
     (halts_behind (λ files. scripting files unit script) c.in_ok-unit.ensures.shelf (halts_behind (λ files. scripting files unit script) c.in_ok-inputs.ensures.shelf c.in_err-script.ensures.err)))
 
 pub returns-in_err-pace-clause-err : goal.returns-in_err-pace-clause-err
 returns-in_err-pace-clause-err g c =
     let unit = c.in_ok-unit.unit in
     let supply = c.in_ok-supply.supply in
-    let (graphs, gives) = c.in_ok-supply.ensures.ok in
+    let gives = c.in_ok-supply.ensures.ok in
     let inputs = option_copied c.args.inputs in
     let script = option_copied c.args.script in
     let listed = gives_behind (λ files. listing files unit inputs) c.in_ok-unit.ensures.shelf c.in_ok-inputs.ensures.ok in
     let scripted = gives_behind (λ files. scripting files unit script) c.in_ok-unit.ensures.shelf (gives_behind (λ files. scripting files unit script) c.in_ok-inputs.ensures.shelf c.in_ok-script.ensures.ok) in
     halts_exit _ _ _ _ _ _ c.from_residual-in_err-pace.ensures.1
-    (run_unpaced _ c.args.name.now c.args.until inputs script unit (supply_of graphs supply) c.in_ok-unit.ensures.ok gives _ listed _ scripted _ _ _ _ (c.in_err-pace.ensures.err _ _ _))
+    (run_unpaced _ c.args.name.now c.args.until inputs script unit (supply_of supply) c.in_ok-unit.ensures.ok gives _ listed _ scripted _ _ _ _ (c.in_err-pace.ensures.err _ _ _))
 
 pub returns-in-Ok-clause-ok : goal.returns-in-Ok-clause-ok
 returns-in-Ok-clause-ok g c =
     let unit = c.in_ok-unit.unit in
     let supply = c.in_ok-supply.supply in
-    let (graphs, gives) = c.in_ok-supply.ensures.ok in
+    let gives = c.in_ok-supply.ensures.ok in
     let inputs = option_copied c.args.inputs in
     let script = option_copied c.args.script in
     let listed = gives_behind (λ files. listing files unit inputs) c.in_ok-unit.ensures.shelf c.in_ok-inputs.ensures.ok in
     let scripted = gives_behind (λ files. scripting files unit script) c.in_ok-unit.ensures.shelf (gives_behind (λ files. scripting files unit script) c.in_ok-inputs.ensures.shelf c.in_ok-script.ensures.ok) in
     let its = c.in-Ok.ensures in
-    run_gives _ c.args.name.now c.args.until inputs script unit (supply_of graphs supply) c.in_ok-unit.ensures.ok gives _ listed _ scripted _
+    run_gives _ c.args.name.now c.args.until inputs script unit (supply_of supply) c.in_ok-unit.ensures.ok gives _ listed _ scripted _
     c.in_ok-pace.ensures.ok (ran_is _ _ _ _ _ _ _ its.booted its.its_unit its.its_nexts its.its_sizes its.its_until)
 
 pub returns-in-Ok-clause-can : goal.returns-in-Ok-clause-can

@@ -11,6 +11,7 @@ invariant-stages g l =
       same : l.kernel ≡ record (l.fn.kernel) { dates = l.kernel.dates; cycles = l.kernel.cycles; given = l.kernel.given; last = None };
       given : l.kernel.given ≡ length (lines_told l.kernel);
       within : l.kernel.dates ≤ l.fn.kernel.plan.until + 1;
+      behind : (system l.fn.kernel).opening.dates ≤ l.kernel.dates;
       cycles : l.kernel.cycles ≤ l.kernel.dates * l.fn.kernel.plan.unit.quantum;
       over : l.kernel.dates ≡ l.fn.kernel.plan.until + 1 → l.kernel.cycles ≡ l.fn.kernel.plan.until * l.fn.kernel.plan.unit.quantum;
       unfailed : g.S.Sink.faults l.out ≡ g.S.Sink.faults l.fn.out;

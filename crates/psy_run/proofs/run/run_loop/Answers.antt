@@ -6,7 +6,6 @@ use Rattle.psy_kernel.specs.Texts.{log_of, text_of}
 use Rattle.psy_log.specs.Writing.{Written}
 use Rattle.psy_run.specs.Cuts.{IsCutAt, log_lines}
 use Rattle.psy_run.proofs.CutLemmas.{cut_before, cut_last, log_text}
-use Rattle.psy_run.proofs.LogLemmas.{whole-booted}
 use Rattle.psy_run.proofs.WritingLemmas.{GrewByFront-append, Written-append}
 use Rattle.psy_run.proofs.run.run_loop.Goals as goal
 
@@ -33,5 +32,5 @@ returns-clause-cut g c =
     let dates = old.plan.until + 1 in
     let summary : summary_told c.run_dates.new.kernel ≡ summary_told old = ap summary_told c.in_default.ensures.over in
     cut_last _ _ _ (log_lines (system old) dates) (summary_told old) _
-    (subst (Grew (g.S.Sink.held c.args.out.now) (g.S.Sink.held c.run_dates.new.out)) (log_text (system old) (whole-booted old c.requires.booted) dates) c.in_default.ensures.written)
+    (subst (Grew (g.S.Sink.held c.args.out.now) (g.S.Sink.held c.run_dates.new.out)) (log_text (system old) dates) c.in_default.ensures.written)
     (subst (λ lines. IfErr c.write_summary.result (λ fault. IsCutAt (g.S.Sink.held c.run_dates.new.out) (g.S.Sink.held c.write_summary.new.out) lines fault.taken)) summary c.write_summary.ensures.cut)

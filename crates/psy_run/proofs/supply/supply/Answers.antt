@@ -11,7 +11,7 @@ pub returns-in_err-coded-clause-err : goal.returns-in_err-coded-clause-err
 returns-in_err-coded-clause-err c failed before after = halts_exit (supplying c.args.unit.now c.args.until) failed before after Memory c.from_residual.result c.from_residual.ensures.1 halts_memory
 
 pub returns-in-Ok-clause-ok : goal.returns-in-Ok-clause-ok
-returns-in-Ok-clause-ok c = (c.in-Ok.found.graphs, c.in-Ok.ensures.ok)
+returns-in-Ok-clause-ok c = c.in-Ok.ensures.ok
 
 pub returns-in-Err-clause-err : goal.returns-in-Err-clause-err
 returns-in-Err-clause-err c failed before after =

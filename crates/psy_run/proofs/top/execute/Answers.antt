@@ -1,8 +1,11 @@
 -- What is left of the proof of `top::execute`.
-use Rattle.std.proofs.Common.{subst}
+use Rattle.std.proofs.Common.{None, subst}
 use Rattle.psy_door.specs.Growth.{Grew, GrewByFront}
-use Rattle.psy_run.proofs.MeaningText.{executed_leaves, executed_text}
+use Rattle.psy_run.proofs.MeaningText.{begins, executed_leaves, executed_text}
 use Rattle.psy_run.proofs.top.execute.Goals as goal
+
+pub run_loop-requires : goal.run_loop-requires
+run_loop-requires g c = record { began = begins c.args.kernel None c.requires.can.0 }
 
 pub returns-in-Err-clause-written : goal.returns-in-Err-clause-written
 returns-in-Err-clause-written g c =

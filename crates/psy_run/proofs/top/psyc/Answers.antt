@@ -1,5 +1,5 @@
 -- What is left of the proof of `top::psyc`.
-use Rattle.psy_run.specs.Services.{Executed, Ran, Traced}
+use Rattle.psy_run.specs.Services.{Executed, Ran, Resumed, Saved, Traced}
 use Rattle.psy_run.proofs.TopLemmas.{ends_answered, ends_complete, ends_done, ends_words, ends_listed, ends_read, ends_cut_short, ends_for_memory, ends_left, ends_over, ends_none_left, ends_headline}
 use Rattle.psy_run.proofs.top.psyc.Goals as goal
 
@@ -52,3 +52,9 @@ returns-clause-executed g c files unit code nexts sizes until lists said = ends_
 
 pub returns-clause-traced : goal.returns-clause-traced
 returns-clause-traced g c files unit nexts sizes until lists said = ends_headline c.one_answer.ensures.same c.bounded.ensures _ _ _ _ _ _ _ c.answer.ensures.ends files (Traced unit nexts sizes until lists said)
+
+pub returns-clause-saved : goal.returns-clause-saved
+returns-clause-saved g c files unit nexts sizes date lists said = ends_headline c.one_answer.ensures.same c.bounded.ensures _ _ _ _ _ _ _ c.answer.ensures.ends files (Saved unit nexts sizes date lists said)
+
+pub returns-clause-resumed : goal.returns-clause-resumed
+returns-clause-resumed g c files unit nexts sizes until state lists said = ends_headline c.one_answer.ensures.same c.bounded.ensures _ _ _ _ _ _ _ c.answer.ensures.ends files (Resumed unit nexts sizes until state lists said)

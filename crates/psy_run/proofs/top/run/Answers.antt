@@ -1,8 +1,11 @@
 -- What is left of the proof of `top::run`.
-use Rattle.std.proofs.Common.{subst}
+use Rattle.std.proofs.Common.{None, subst}
 use Rattle.psy_door.specs.Growth.{Grew, GrewByFront}
-use Rattle.psy_run.proofs.MeaningText.{are_alike, ran_leaves, served_text}
+use Rattle.psy_run.proofs.MeaningText.{are_alike, begins, ran_leaves, served_text}
 use Rattle.psy_run.proofs.top.run.Goals as goal
+
+pub run_loop-requires : goal.run_loop-requires
+run_loop-requires g c = record { began = begins c.args.kernel None c.requires.can.0 }
 
 pub returns-in-Err-clause-written : goal.returns-in-Err-clause-written
 returns-in-Err-clause-written g c =

@@ -8,16 +8,22 @@ use Rattle.psy_run.proofs.MeaningText.{is_bounded}
 use Rattle.psy_run.proofs.top.serve.Goals as goal
 
 pub returns-in-Ran-clause-bounded : goal.returns-in-Ran-clause-bounded
-returns-in-Ran-clause-bounded g c = is_bounded c.bounds.ensures c.bounds_by.ensures c.args.served c.requires.can
+returns-in-Ran-clause-bounded g c = is_bounded c.bounds.ensures c.bounds_by.ensures c.bounds_behind.ensures c.args.served c.requires.can
 
 pub returns-in-Tried-clause-bounded : goal.returns-in-Tried-clause-bounded
-returns-in-Tried-clause-bounded g c = is_bounded c.bounds.ensures c.bounds_by.ensures c.args.served c.requires.can
+returns-in-Tried-clause-bounded g c = is_bounded c.bounds.ensures c.bounds_by.ensures c.bounds_behind.ensures c.args.served c.requires.can
 
 pub returns-in-Executed-clause-bounded : goal.returns-in-Executed-clause-bounded
-returns-in-Executed-clause-bounded g c = is_bounded c.bounds.ensures c.bounds_by.ensures c.args.served c.requires.can
+returns-in-Executed-clause-bounded g c = is_bounded c.bounds.ensures c.bounds_by.ensures c.bounds_behind.ensures c.args.served c.requires.can
 
 pub returns-in-Traced-clause-bounded : goal.returns-in-Traced-clause-bounded
-returns-in-Traced-clause-bounded g c = is_bounded c.bounds.ensures c.bounds_by.ensures c.args.served c.requires.can
+returns-in-Traced-clause-bounded g c = is_bounded c.bounds.ensures c.bounds_by.ensures c.bounds_behind.ensures c.args.served c.requires.can
+
+pub returns-in-Saved-clause-bounded : goal.returns-in-Saved-clause-bounded
+returns-in-Saved-clause-bounded g c = is_bounded c.bounds.ensures c.bounds_by.ensures c.bounds_behind.ensures c.args.served c.requires.can
+
+pub returns-in-Resumed-clause-bounded : goal.returns-in-Resumed-clause-bounded
+returns-in-Resumed-clause-bounded g c = is_bounded c.bounds.ensures c.bounds_by.ensures c.bounds_behind.ensures c.args.served c.requires.can
 
 pub returns-in-Audited-clause-written : goal.returns-in-Audited-clause-written
 returns-in-Audited-clause-written g c =

@@ -23,55 +23,55 @@ pub returns-in_err-text-clause-err : goal.returns-in_err-text-clause-err
 returns-in_err-text-clause-err g c =
     let unit = c.in_ok-unit.unit in
     let supply = c.in_ok-supply.supply in
-    let (graphs, gives) = c.in_ok-supply.ensures.ok in
+    let gives = c.in_ok-supply.ensures.ok in
     let script = option_copied c.args.script in
     halts_exit _ _ _ _ _ _ c.from_residual-in_err-text.ensures.1
-    (audit_unread _ c.args.name.now c.args.until c.args.trace.now script _ _ _ _ unit c.in_ok-unit.ensures.ok (supply_of graphs supply) gives
+    (audit_unread _ c.args.name.now c.args.until c.args.trace.now script _ _ _ _ unit c.in_ok-unit.ensures.ok (supply_of supply) gives
     (halts_behind (λ files. reading files Trace c.args.trace.now) c.in_ok-unit.ensures.shelf c.in_err-text.ensures.err))
 
 pub returns-in_err-script-clause-err : goal.returns-in_err-script-clause-err
 returns-in_err-script-clause-err g c =
     let unit = c.in_ok-unit.unit in
     let supply = c.in_ok-supply.supply in
-    let (graphs, gives) = c.in_ok-supply.ensures.ok in
+    let gives = c.in_ok-supply.ensures.ok in
     let script = option_copied c.args.script in
     let read = gives_behind (λ files. reading files Trace c.args.trace.now) c.in_ok-unit.ensures.shelf c.in_ok-text.ensures.ok in
     halts_exit _ _ _ _ _ _ c.from_residual-in_err-script.ensures.1
-    (audit_unscripted _ c.args.name.now c.args.until c.args.trace.now script _ _ _ _ unit c.in_ok-unit.ensures.ok (supply_of graphs supply) gives _ read
+    (audit_unscripted _ c.args.name.now c.args.until c.args.trace.now script _ _ _ _ unit c.in_ok-unit.ensures.ok (supply_of supply) gives _ read
     (halts_behind (λ files. scripting files unit script) c.in_ok-unit.ensures.shelf (halts_behind (λ files. scripting files unit script) c.in_ok-text.ensures.shelf c.in_err-script.ensures.err)))
 
 pub returns-in_err-pace-clause-err : goal.returns-in_err-pace-clause-err
 returns-in_err-pace-clause-err g c =
     let unit = c.in_ok-unit.unit in
     let supply = c.in_ok-supply.supply in
-    let (graphs, gives) = c.in_ok-supply.ensures.ok in
+    let gives = c.in_ok-supply.ensures.ok in
     let script = option_copied c.args.script in
     let read = gives_behind (λ files. reading files Trace c.args.trace.now) c.in_ok-unit.ensures.shelf c.in_ok-text.ensures.ok in
     let scripted = gives_behind (λ files. scripting files unit script) c.in_ok-unit.ensures.shelf (gives_behind (λ files. scripting files unit script) c.in_ok-text.ensures.shelf c.in_ok-script.ensures.ok) in
     halts_exit _ _ _ _ _ _ c.from_residual-in_err-pace.ensures.1
-    (audit_unpaced _ c.args.name.now c.args.until c.args.trace.now script _ _ _ _ unit c.in_ok-unit.ensures.ok (supply_of graphs supply) gives _ read _ scripted (c.in_err-pace.ensures.err _ _ _))
+    (audit_unpaced _ c.args.name.now c.args.until c.args.trace.now script _ _ _ _ unit c.in_ok-unit.ensures.ok (supply_of supply) gives _ read _ scripted (c.in_err-pace.ensures.err _ _ _))
 
 pub returns-in_err-legal-clause-err : goal.returns-in_err-legal-clause-err
 returns-in_err-legal-clause-err g c =
     let unit = c.in_ok-unit.unit in
     let supply = c.in_ok-supply.supply in
-    let (graphs, gives) = c.in_ok-supply.ensures.ok in
+    let gives = c.in_ok-supply.ensures.ok in
     let script = option_copied c.args.script in
     let read = gives_behind (λ files. reading files Trace c.args.trace.now) c.in_ok-unit.ensures.shelf c.in_ok-text.ensures.ok in
     let scripted = gives_behind (λ files. scripting files unit script) c.in_ok-unit.ensures.shelf (gives_behind (λ files. scripting files unit script) c.in_ok-text.ensures.shelf c.in_ok-script.ensures.ok) in
     halts_exit _ _ _ _ _ _ c.from_residual-in_err-legal.ensures.1
-    (audit_untrue _ c.args.name.now c.args.until c.args.trace.now script _ _ _ _ unit c.in_ok-unit.ensures.ok (supply_of graphs supply) gives _ read _ scripted c.in_ok-pace.ensures.ok (c.in_err-legal.ensures.err _ _ _))
+    (audit_untrue _ c.args.name.now c.args.until c.args.trace.now script _ _ _ _ unit c.in_ok-unit.ensures.ok (supply_of supply) gives _ read _ scripted c.in_ok-pace.ensures.ok (c.in_err-legal.ensures.err _ _ _))
 
 pub returns-clause-ok : goal.returns-clause-ok
 returns-clause-ok g c =
     let unit = c.in_ok-unit.unit in
     let supply = c.in_ok-supply.supply in
-    let (graphs, gives) = c.in_ok-supply.ensures.ok in
+    let gives = c.in_ok-supply.ensures.ok in
     let script = option_copied c.args.script in
     let read = gives_behind (λ files. reading files Trace c.args.trace.now) c.in_ok-unit.ensures.shelf c.in_ok-text.ensures.ok in
     let scripted = gives_behind (λ files. scripting files unit script) c.in_ok-unit.ensures.shelf (gives_behind (λ files. scripting files unit script) c.in_ok-text.ensures.shelf c.in_ok-script.ensures.ok) in
     let legal = c.in_ok-legal.legal in
-    audit_gives _ c.args.name.now c.args.until c.args.trace.now script unit c.in_ok-unit.ensures.ok (supply_of graphs supply) gives _ read _ scripted c.in_ok-pace.ensures.ok
+    audit_gives _ c.args.name.now c.args.until c.args.trace.now script unit c.in_ok-unit.ensures.ok (supply_of supply) gives _ read _ scripted c.in_ok-pace.ensures.ok
     (record { acts = legal.acts; looks = legal.looks }) c.in_ok-legal.ensures.ok _ refl
 
 pub returns-in_err-supply-clause-long : goal.returns-in_err-supply-clause-long

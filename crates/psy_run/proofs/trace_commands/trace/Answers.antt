@@ -1,24 +1,25 @@
 -- What is left of the proof of `trace_commands::trace`.
 use Rattle.std.specs.Prelude.{[], option_copied}
-use Rattle.psy_run.specs.Services.{text_of, traced_run}
+use Rattle.psy_run.specs.declared.served.Served.TheVariants as served
+use Rattle.psy_run.specs.Services.{service_of, text_of, traced_run}
 use Rattle.psy_run.specs.Steps.{fitting}
 use Rattle.psy_run.proofs.Courses.{halts_exit}
 use Rattle.psy_run.proofs.FaultLemmas.{unfailed_exit, unfailed_last}
 use Rattle.psy_run.proofs.LongFiles.{fitting_never_long, took_exit, took_last}
-use Rattle.psy_run.proofs.Tracing.{trace_told, trace_unready, trace_untold}
+use Rattle.psy_run.proofs.Tracing.{as_trace, fits_trace, more_told, more_unready, more_untold}
 use Rattle.psy_run.proofs.trace_commands.trace.Goals as goal
 
 pub returns-in_err-kernel-clause-err : goal.returns-in_err-kernel-clause-err
 returns-in_err-kernel-clause-err g c = halts_exit _ _ _ _ _ _ c.from_residual.ensures.1
-    (trace_unready _ c.args.name.now c.args.until (option_copied c.args.inputs) (option_copied c.args.script) _ _ _ _ c.in_err-kernel.ensures.err)
+    (more_unready as_trace fits_trace _ c.args.name.now c.args.until (option_copied c.args.inputs) (option_copied c.args.script) _ _ _ _ c.in_err-kernel.ensures.err)
 
 pub returns-clause-ok : goal.returns-clause-ok
 returns-clause-ok g c =
-    trace_told _ c.args.name.now c.args.until (option_copied c.args.inputs) (option_copied c.args.script) c.in_ok-kernel.kernel c.in_ok-kernel.ensures.ok _ c.told.ensures.told c.told.ensures.fits
+    more_told as_trace fits_trace _ c.args.name.now c.args.until (option_copied c.args.inputs) (option_copied c.args.script) (service_of (served.Ran c.in_ok-kernel.kernel)) c.in_ok-kernel.ensures.ok _ c.told.ensures.told c.told.ensures.fits
 
 pub returns-clause-err : goal.returns-clause-err
 returns-clause-err g c =
-    trace_untold _ c.args.name.now c.args.until (option_copied c.args.inputs) (option_copied c.args.script) c.in_ok-kernel.kernel c.in_ok-kernel.ensures.ok _ _ _ _ (c.told.ensures.err _ _ _)
+    more_untold as_trace fits_trace _ c.args.name.now c.args.until (option_copied c.args.inputs) (option_copied c.args.script) (service_of (served.Ran c.in_ok-kernel.kernel)) c.in_ok-kernel.ensures.ok _ _ _ _ (c.told.ensures.err _ _ _)
 
 pub returns-in_err-kernel-clause-long : goal.returns-in_err-kernel-clause-long
 returns-in_err-kernel-clause-long g c = took_exit _ _ _ c.from_residual.ensures.1 c.in_err-kernel.ensures.long

@@ -1,5 +1,5 @@
 -- What is left of the proof of `engine::Engine::first_busy`.
-use Rattle.std.proofs.Common.{◌≡◌, ℕ, List, length, subst}
+use Rattle.std.proofs.Common.{ℕ, List, length, subst}
 use Rattle.std.specs.Prelude.{MatchOption}
 use Rattle.psy_history.specs.Resuming.{IsQuiet}
 use Rattle.psy_dates.specs.declared.seat.Seat.{Seat}

@@ -1,18 +1,16 @@
 -- What is left of the proof of `engine::Engine::left`.
-use Rattle.std.proofs.Common.{◌≡◌, ◌<◌, List, [], get_or, length, slice_get, ℤ, sym, ap, subst, ◌∙◌, arith}
+use Rattle.std.proofs.Common.{◌≡◌, ◌<◌, List, [], get_or, length, ℤ, sym, ap, subst, ◌∙◌, arith}
 use Rattle.psy_history.specs.Resuming.{IsQuiet}
 use Rattle.psy_meaning.specs.CodeWays.{agent_code_at}
 use Rattle.psy_meaning.specs.KnownWays.{Listed}
 use Rattle.psy_dates.specs.Beginnings.{behind}
 use Rattle.psy_dates.specs.declared.opening.Opening.{Opening as State}
-use Rattle.psy_dates.specs.declared.seat.Seat.{Seat}
 use Rattle.psy_kernel.specs.Engines.{EngineState, history_of}
-use Rattle.psy_kernel.specs.Freezing.{BeginWithFirst, MayLeave, left_on}
+use Rattle.psy_kernel.specs.Freezing.{BeginWithFirst, MayLeave, left_on, state_by}
 use Rattle.psy_kernel.specs.Resuming.{HasShapeOf}
-use Rattle.psy_kernel.specs.Starting.{seat_at}
 use Rattle.psy_kernel.proofs.DatesDue.{AreRunLaws}
 use Rattle.psy_kernel.proofs.Engines.{order_in, run_in}
-use Rattle.psy_kernel.proofs.LeftStates.{agents_read, all_may, opened_left, shape_left, sized, state_left, state_read, streams_read, variables_read}
+use Rattle.psy_kernel.proofs.LeftStates.{agents_read, all_may, opened_left, shape_left, sized, state_left, state_read, state_same, streams_read, variables_read}
 use Rattle.psy_kernel.proofs.RunsDone.{IsDone, is_done}
 use Rattle.psy_kernel.proofs.engine.Engine.left.Goals.{After-from, In_ok-streams_left}
 use Rattle.psy_kernel.proofs.engine.Engine.left.Goals as goal
@@ -28,13 +26,11 @@ quiet : (c : After-from) → IsQuiet (run_in c.self.inside) c.self.inside.plan.u
 quiet c = subst (λ (e : EngineState). IsQuiet (history_of e) e.plan.until) (sym c.self.view_is) c.requires.quiet
 
 pub agents_left-requires-clause-may : goal.agents_left-requires-clause-may
-agents_left-requires-clause-may c = λ agent runner there.
+agents_left-requires-clause-may c = λ agent less.
     let k = c.self.inside in
     let at = goal.at.agents_left-requires-clause-may c in
-    let its = agent_code_at k.plan.code agent in
-    subst (λ (seats : List Seat). MayLeave its c.deref.result.now (seat_at seats agent) runner) (sym c.deref-2.ensures.value)
-    (subst (λ (committed : List ℤ). MayLeave its committed (seat_at k.shared.seats.items agent) runner) (sym c.deref.ensures.value)
-    (all_may k (over at.After-from) c.lasting.ensures.ended (quiet at.After-from) agent runner (ap (λ xs. slice_get xs agent) (sym c.deref-3.ensures.value) ∙ there)))
+    subst (MayLeave (agent_code_at k.plan.code agent)) (sym c.deref.ensures.value)
+    (all_may k (over at.After-from) agent (omega (arith, less, ap length c.deref-3.ensures.value)))
 
 pub variables_left-requires-clause-sizes : goal.variables_left-requires-clause-sizes
 variables_left-requires-clause-sizes c = λ variable less.
@@ -61,6 +57,17 @@ returns-clause-shape c =
     subst (λ (e : EngineState). HasShapeOf e.plan state) c.self.view_is
     (subst (HasShapeOf k.plan) (sym (state_is c)) (shape_left k (over at.After-from) c.lasting.ensures.ended (quiet at.After-from)))
 
+pub returns-clause-state : goal.returns-clause-state
+returns-clause-state c =
+    let k = c.self.inside in
+    let at = goal.at.returns-clause-state c in
+    let done = over at.After-from in
+    let state : State = record { date = c.from.result; agents = c.in_ok-agents_left.field-0; variables = c.in_ok-variables_left.field-0; streams = c.in_ok-streams_left.field-0 } in
+    subst (λ (e : EngineState). state ≡ state_by e.plan (left_on e)) c.self.view_is
+    (state_is c
+    ∙ state_same k done c.lasting.ensures.ended (quiet at.After-from) (c.regular.ensures.sends (run_in k) (Listed done.stands.plan.ways) k.plan.code done.run) (c.regular.ensures.runs (run_in k) (Listed done.stands.plan.ways) k.plan.code done.run)
+    c.reaches.ensures.date c.reaches.ensures.same (λ other r supplied held le. c.on_time.ensures.due (run_in k) (order_in k) k.plan.until k.plan.until other r supplied (omega arith) held le))
+
 pub returns-clause-opened : goal.returns-clause-opened
 returns-clause-opened c = λ first.
     let k = c.self.inside in
@@ -70,5 +77,5 @@ returns-clause-opened c = λ first.
     let begins : BeginWithFirst k.plan = subst (λ (e : EngineState). BeginWithFirst e.plan) (sym c.self.view_is) first in
     subst (λ (e : EngineState). behind e.plan state ≡ left_on e) c.self.view_is
     (ap (behind k.plan) (state_is c)
-    ∙ opened_left k done c.lasting.ensures.ended (quiet at.After-from) begins (c.regular.ensures.sends (run_in k) (Listed done.stands.plan.ways) k.plan.code done.run) (c.regular.ensures.runs (run_in k) (Listed done.stands.plan.ways) k.plan.code done.run)
-    c.reaches.ensures.date c.reaches.ensures.same (λ other r supplied held le. c.on_time.ensures.due (run_in k) (order_in k) k.plan.until k.plan.until other r supplied (omega arith) held le))
+    ∙ opened_left k done c.lasting.ensures.ended (quiet at.After-from) (c.regular.ensures.sends (run_in k) (Listed done.stands.plan.ways) k.plan.code done.run) (c.regular.ensures.runs (run_in k) (Listed done.stands.plan.ways) k.plan.code done.run)
+    c.reaches.ensures.date c.reaches.ensures.same (λ other r supplied held le. c.on_time.ensures.due (run_in k) (order_in k) k.plan.until k.plan.until other r supplied (omega arith) held le) begins)

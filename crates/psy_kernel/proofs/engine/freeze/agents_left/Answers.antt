@@ -13,13 +13,11 @@ agent_left-requires c =
     let n = c.agents.agent in
     let code = c.args.code.now in
     let codes = c.as_slice-codes.result.now in
-    let runners = c.args.runners.now in
     let none : AgentCode = record { points = []; cells = []; counters = 0; copies = []; stack = 0; frames = 0 } in
     let within : n < length codes = omega (arith, c.agents-test.true, c.requires.coded, ap length c.as_slice-codes.ensures) in
     let its : agent_code_at code n ≡ c.index-codes-agent.result =
     ap (λ xs. get_or xs n none) (sym c.as_slice-codes.ensures) ∙ read_any codes n c.index-codes-agent.result none within c.index-codes-agent.is in
-    let here : slice_get runners n ≡ Some c.index-runners-agent.result = slice_get-get_or runners n c.index-runners-agent.result c.agents-test.true ∙ ap Some (sym c.index-runners-agent.is) in
-    subst (λ a. MayLeave a c.args.committed.now (seat_at c.args.seats.now n) c.index-runners-agent.result) its (c.requires.may n c.index-runners-agent.result here)
+    subst (λ a. MayLeave a c.args.committed.now) its (c.requires.may n c.agents-test.true)
 
 pub agents-preserved : goal.agents-preserved
 agents-preserved c =

@@ -1,0 +1,6 @@
+-- The lemmas of this crate, by subject.
+mod EarlierPlans
+mod OtherExecutors
+mod QuietDates
+mod RestTexts
+mod SameEnds

@@ -1,0 +1,2 @@
+-- The definitions of this crate, by subject.
+pub mod Joined

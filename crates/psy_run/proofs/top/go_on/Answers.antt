@@ -1,0 +1,23 @@
+-- What is left of the proof of `top::go_on`.
+use Rattle.std.proofs.Common.{Some, subst}
+use Rattle.psy_door.specs.Growth.{Grew, GrewByFront}
+use Rattle.psy_run.proofs.MeaningText.{are_alike_behind, begins, resumed_leaves, resumed_text}
+use Rattle.psy_run.proofs.top.go_on.Goals as goal
+
+pub run_loop-requires : goal.run_loop-requires
+run_loop-requires g c = record { began = begins c.args.kernel (Some c.requires.can.state) c.requires.can.opened }
+
+pub returns-in-Err-clause-written : goal.returns-in-Err-clause-written
+returns-in-Err-clause-written g c =
+    let law = c.alike_behind.ensures in
+    let text = resumed_text (are_alike_behind law.lines law.counts law.slacks law.held law.reaches) c.by_text.ensures c.args.kernel c.requires.can in
+    subst (GrewByFront (g.S.Sink.held c.args.out.now) (g.S.Sink.held c.run_loop.new.out)) text c.in-Err.ensures.written
+
+pub returns-clause-written : goal.returns-clause-written
+returns-clause-written g c =
+    let law = c.alike_behind.ensures in
+    let text = resumed_text (are_alike_behind law.lines law.counts law.slacks law.held law.reaches) c.by_text.ensures c.args.kernel c.requires.can in
+    subst (Grew (g.S.Sink.held c.args.out.now) (g.S.Sink.held c.run_loop.new.out)) text c.in_default.ensures.written
+
+pub returns-clause-over : goal.returns-clause-over
+returns-clause-over g c = resumed_leaves c.args.kernel c.run_loop.new.kernel c.requires.can c.in_default.ensures.over
