@@ -102,3 +102,9 @@ verdict_by (claim.SomeMessage stream) from to notes = kept_by (first_by (claim.S
 
 abbrev pub verdict_of : Assertion → List Note → Verdict
 verdict_of assertion notes = verdict_by assertion.claim (first_date assertion.span) (last_date assertion.span) notes
+
+-- It is kept.
+abbrev pub is_kept : Verdict → Bool
+is_kept verdict.Kept = true
+is_kept (verdict.Broken note) = false
+is_kept verdict.Missing = false

@@ -112,8 +112,8 @@ pub fn is_met(relation: Relation, value: i32, note: &Note) -> bool
     }
 }
 
-// Whether a value stands so to another.
-fn meets(relation: Relation, value: i32, other: i32) -> bool
+/// Whether a value stands so to another.
+pub fn meets(relation: Relation, value: i32, other: i32) -> bool
     ensures { result ≡ meets relation value other }
 {
     match relation {

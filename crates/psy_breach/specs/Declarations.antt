@@ -56,6 +56,11 @@ is_local Array = true
 is_local Variable = true
 is_local _ = false
 
+-- It is a function.
+abbrev pub is_function : Option Sort → Bool
+is_function (Some Function) = true
+is_function _ = false
+
 -- The name that is declared
 abbrev pub name_of : List Token → List ℕ
 name_of (word ∷ name ∷ more) = name_at (Some name)
@@ -120,6 +125,14 @@ earlier (Some one) (Some other) = if nat_lt (place_of other) (place_of one) then
 -- or function to which the place belongs. That is the one declared last before it, as what it declares inside stands before its statements.
 abbrev pub reached : How → List ℕ → List Token → List Token → Option (List Token)
 reached how name tokens front = earlier (first_declared Whole how name tokens) (first_declared Inside how name (last_head front))
+
+-- The name that stands first among tokens
+abbrev pub named : List Token → List ℕ
+named back = name_at (slice_get back 0)
+
+-- The first declaration in reach of it
+abbrev pub found : List Token → List Token → List Token → Option (List Token)
+found tokens front back = reached Same (named back) tokens front
 
 -- Two declarations are one.
 abbrev pub is_same : List Token → List Token → Bool

@@ -9,6 +9,11 @@ use Rattle.psy_tree.specs.declared.token.Word.{Word}
 use Rattle.psy_tree.specs.contracts.token.Word as word_kind
 use Rattle.psy_tree.specs.contracts.token.Sign as sign_kind
 
+-- There is one, and it passes a test.
+abbrev pub passes : {X : Type 0} → (X → Bool) → Option X → Bool
+passes test None = false
+passes test (Some x) = test x
+
 -- A token of this kind is this reserved word.
 abbrev pub is_word_kind : Kind → Word → Bool
 is_word_kind (kinds.Word here) word = sameb word_kind.the_type here word

@@ -1,11 +1,16 @@
 -- What a place asks of the name that stands there, by the tokens around it.
-use Rattle.std.specs.Prelude.{Bool, ◌&&◌, ◌||◌, if◌then◌else◌, List, slice_get, Option, None, Some}
+use Rattle.std.specs.Prelude.{Bool, true, false, ◌&&◌, ◌||◌, if◌then◌else◌, List, slice_get, Option, None, Some}
 use Rattle.psy_tree.specs.declared.token.Sign.TheVariants as signs
 use Rattle.psy_tree.specs.declared.token.Token.{Token}
 use Rattle.psy_tree.specs.declared.token.Word.TheVariants as words
 use Rattle.psy_breach.specs.declared.role.Role.{Role}
 use Rattle.psy_breach.specs.declared.role.Role.TheVariants.{Clock, Parent, Agent, Target, Messages, Past, Function, Cell, Assigned, Value}
 use Rattle.psy_breach.specs.Kinds.{before, is_sign, is_word}
+
+-- A function is called.
+abbrev pub is_called : Role → Bool
+is_called Function = true
+is_called _ = false
 
 -- Behind `to`, with so much before it: in the head of a stream its receiver is named, in a `send` a stream.
 abbrev pub role_behind_to : Option Token → Role

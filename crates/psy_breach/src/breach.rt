@@ -1,14 +1,21 @@
 //! What is told of a token at which a rule is broken.
-ghost use Rattle.std.specs.Prelude.{◌≡◌, ◌++◌, ◌≤◌, IfOk, OnOk, drop, length, take};
-ghost use Rattle.psy_breach.specs.Breaches.{breach_hint, breach_told, hint_line};
+ghost use Rattle.std.specs.Prelude.{◌≡◌, ◌≤◌, IfOk, drop, length, take};
+ghost use Rattle.psy_breach.specs.Breaches.{breach_hint, breach_told};
+ghost use Rattle.psy_page.specs.Told.{said};
 
+use crate::declared::{How, last_head, reached, sort_of};
 use crate::loops::mixed_told;
-use crate::names::{add_calls, add_owner, add_receiver, add_twice, add_unknown};
-use crate::numbers::{add_clock, add_deep, add_range};
-use crate::wrong::add_wrong;
+use crate::names::{calls_told, first_named, owner_told, receiver_told, unknown_told};
+use crate::numbers::{clock_told, deep_told, range_told};
+use crate::role::role_of;
+use crate::sentences as words;
+use crate::token::name_at;
+use crate::told::declared;
+use crate::wrong::wrong_told;
 use psy_base::Memory;
+use psy_page::{Told, hint};
 use psy_tree::Token;
-use std::alloc::{AllocError, Global};
+use std::alloc::Global;
 
 /// A line that tells why the rule of this number is broken at the token of that number, and what to do: of a name, which declaration it has, in which line
 /// of the text, and what its place asks for; of a number, its range; of a loop, what it lacks. Nothing where nothing is told. The only error is want of
@@ -24,52 +31,33 @@ pub fn breach_hint(
     ensures { IfOk result (λ hint. hint.items ≡ breach_hint text.now tokens.now rule at) }
 {
     let (front, back) = tokens.split_at(at);
-    let mut told = Vec::new(alloc);
-    add_breach(&mut told, text, tokens, front, back, rule)?;
-    Ok(hint_line(alloc, told.as_slice())?)
+    Ok(hint(alloc, breach_told(text, tokens, front, back, rule))?)
 }
 
-// The line, where something is told.
-fn hint_line(alloc: Global, told: &[u8]) -> Result<Vec<u8>, AllocError>
-    ensures { IfOk result (λ text. text.items ≡ hint_line told.now) }
-{
-    let mut out = Vec::new(alloc);
-    if told.is_empty() {
-        return Ok(out);
-    }
-    out.extend_from_slice(b"hint: ")?;
-    out.extend_from_slice(told)?;
-    out.push(b'\n')?;
-    Ok(out)
-}
-
-fn add_breach(
-    out: &mut Vec<u8>,
+fn breach_told<'a>(
     text: &[u8],
-    tokens: &[Token],
-    front: &[Token],
-    back: &[Token],
+    tokens: &'a [Token],
+    front: &'a [Token],
+    back: &'a [Token],
     rule: u32,
-) -> Result<(), AllocError>
-    ensures { OnOk result (out.new.items ≡ out.old.items ++ breach_told text.now tokens.now front.now back.now rule) }
+) -> Option<Told<'a>>
+    ensures { said result ≡ breach_told text.now tokens.now front.now back.now rule }
 {
+    let name = name_at(back.first());
+    let found = reached(How::Same, name, tokens, front);
     match rule {
-        1 => add_twice(out, text, front, back),
-        2 => add_unknown(out, text, tokens, front, back),
-        3 => add_wrong(out, text, tokens, front, back),
-        4 => add_owner(out, tokens, front, back),
-        5 => add_receiver(out, tokens, front, back),
-        6 => add_deep(out, tokens, front),
-        7 => out.extend_from_slice(
-            b"tell how many turns it takes at most, as in `while (..) max 10 { .. }`, or put an `advance` on each way round it",
-        ),
-        8 => out.extend_from_slice(mixed_told(front, back)),
-        9 => out.extend_from_slice(
-            b"put one at its end: one in a loop, or under an `if` without an `else` that has one too, isn't on each path",
-        ),
-        10 => add_calls(out, text, tokens, front, back),
-        11 => add_clock(out, back),
-        12 => add_range(out, front),
-        _ => Ok(()),
+        1 => declared(text, name, first_named(front, back), words::TWICE),
+        2 => unknown_told(text, tokens, front, back, found),
+        3 => wrong_told(text, front, back, found),
+        4 => owner_told(name, role_of(front, back), found),
+        5 => receiver_told(name, found),
+        6 => deep_told(tokens, front),
+        7 => Some(Told::Plain(words::ENDLESS)),
+        8 => Some(Told::Plain(mixed_told(sort_of(last_head(front)), back))),
+        9 => Some(Told::Plain(words::QUIET)),
+        10 => calls_told(text, name, last_head(front), found),
+        11 => clock_told(back),
+        12 => range_told(front),
+        _ => None,
     }
 }

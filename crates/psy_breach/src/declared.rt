@@ -1,8 +1,8 @@
 //! Declarations among tokens: each is seen as the tokens from its first on.
 ghost use Rattle.std.specs.Prelude.{◌≡◌, ℕ};
 ghost use Rattle.std.specs.Option.{option_copied};
-ghost use Rattle.psy_breach.specs.Declarations.{declares, declares_as, earlier, first_declared, is_head, is_like, is_local, is_same, last_head, name_of};
-ghost use Rattle.psy_breach.specs.Declarations.{place_of, reached, reaches, sort_at, sort_of, sort_of_kinds, sort_of_typed, sort_of_word};
+ghost use Rattle.psy_breach.specs.Declarations.{declares, earlier, first_declared, is_function, is_head, is_like, is_local, is_same, last_head};
+ghost use Rattle.psy_breach.specs.Declarations.{name_of, place_of, reached, reaches, sort_at, sort_of, sort_of_kinds, sort_of_typed, sort_of_word};
 
 use crate::token::{is_sign, name_at};
 use psy_near::is_near;
@@ -97,11 +97,14 @@ fn sort_of_typed(third: Option<&Token>) -> Sort
 pub fn is_local(sort: Sort) -> bool
     ensures { result ≡ is_local sort }
 {
-    match sort {
-        Sort::Array | Sort::Variable => true,
-        Sort::Clock | Sort::Temporal | Sort::Input | Sort::Stream | Sort::Agent | Sort::Function =>
-            false,
-    }
+    matches!(sort, Sort::Array | Sort::Variable)
+}
+
+/// Is it a function?
+pub fn is_function(sort: Option<Sort>) -> bool
+    ensures { result ≡ is_function sort }
+{
+    matches!(sort, Some(Sort::Function))
 }
 
 /// The name that is declared.
@@ -146,10 +149,7 @@ fn reaches(reach: Reach, sort: Sort) -> bool
 fn declares(reach: Reach, how: How, name: &[u8], tokens: &[Token]) -> bool
     ensures { result ≡ declares reach how name.now tokens.now }
 {
-    match sort_of(tokens) {
-        Some(sort) => reaches(reach, sort) && is_like(how, name, name_of(tokens)),
-        None => false,
-    }
+    sort_of(tokens).is_some_and(|sort| reaches(reach, sort)) && is_like(how, name, name_of(tokens))
 }
 
 /// The first declaration of a name among tokens, or of one like it.
@@ -174,10 +174,7 @@ pub fn first_declared<'a>(
 fn is_head(tokens: &[Token]) -> bool
     ensures { result ≡ is_head tokens.now }
 {
-    match sort_of(tokens) {
-        Some(sort) => !is_local(sort),
-        None => false,
-    }
+    sort_of(tokens).is_some_and(|sort| !is_local(sort))
 }
 
 /// The last declaration of the whole program among tokens, and what follows it; none of the tokens where there is none.

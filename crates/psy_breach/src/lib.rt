@@ -8,6 +8,7 @@ mod loops;
 mod names;
 mod numbers;
 mod role;
+mod sentences;
 mod token;
 mod told;
 mod wrong;

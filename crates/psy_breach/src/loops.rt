@@ -1,37 +1,23 @@
-//! What is told of a loop, or of a body without an `advance`.
+//! What is told of a loop with an `advance`.
 ghost use Rattle.std.specs.Prelude.{◌≡◌};
-ghost use Rattle.psy_breach.specs.Loops.{is_bound, is_bounded, mixed_told, mixed_told_in, rounds_told};
+ghost use Rattle.psy_breach.specs.Loops.{is_bound, is_bounded, mixed_told};
 
-use crate::declared::{Sort, last_head, sort_of};
+use crate::declared::{Sort, is_function};
+use crate::sentences as words;
 use crate::token::{is_sign, is_word};
 use psy_tree::{Sign, Token, Word};
 
-/// What is told of a loop that has an `advance`, behind these tokens: that it stands in a function, or else that it is bounded, or has a way round that takes
-/// no time.
-pub fn mixed_told(front: &[Token], back: &[Token]) -> &'static [u8]
-    ensures { result.now ≡ mixed_told front.now back.now }
+/// What is told of a loop that has an `advance`, in what is declared so: that it stands in a function, or else that it is bounded, or has a way round that
+/// takes no time.
+pub fn mixed_told(here: Option<Sort>, back: &[Token]) -> &'static [u8]
+    ensures { result.now ≡ mixed_told here back.now }
 {
-    mixed_told_in(sort_of(last_head(front)), back)
-}
-
-fn mixed_told_in(here: Option<Sort>, back: &[Token]) -> &'static [u8]
-    ensures { result.now ≡ mixed_told_in here back.now }
-{
-    match here {
-        Some(Sort::Function) =>
-            b"a function takes no time, and has no `advance`: write the loop in the agent",
-        _ => rounds_told(back),
-    }
-}
-
-// What is told of it in an agent.
-fn rounds_told(back: &[Token]) -> &'static [u8]
-    ensures { result.now ≡ rounds_told back.now }
-{
-    if is_bounded(back) {
-        b"this loop has a `max`, and an `advance` in it: take the `max` away, since a loop that takes time needs none, or the `advance` out"
+    if is_function(here) {
+        words::TIMELESS
+    } else if is_bounded(back) {
+        words::BOUNDED
     } else {
-        b"this loop has an `advance`, but a way round it meets none: put one on each way, also where an `if` is skipped"
+        words::ROUNDS
     }
 }
 

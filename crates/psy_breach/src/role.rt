@@ -1,7 +1,7 @@
 //! What a place asks of the name that stands there.
 ghost use Rattle.std.specs.Prelude.{◌≡◌, slice_get};
 ghost use Rattle.std.specs.Option.{option_copied};
-ghost use Rattle.psy_breach.specs.Roles.{is_in_clock, role_before, role_behind, role_behind_to, role_at, role_in_brackets, role_of, role_or};
+ghost use Rattle.psy_breach.specs.Roles.{is_called, is_in_clock, role_before, role_behind, role_behind_to, role_at, role_in_brackets, role_of, role_or};
 
 use crate::token::{before, is_sign, is_word};
 use psy_tree::{Sign, Token, Word};
@@ -29,6 +29,13 @@ pub enum Role {
     Assigned,
     /// A variable whose value is wanted.
     Value,
+}
+
+/// Is a function called?
+pub fn is_called(role: Role) -> bool
+    ensures { result ≡ is_called role }
+{
+    matches!(role, Role::Function)
 }
 
 /// The role of a name, by the tokens before it, and itself with those behind it.

@@ -1,7 +1,7 @@
 //! What single tokens are.
 ghost use Rattle.std.specs.Prelude.{◌≡◌};
 ghost use Rattle.std.specs.Option.{option_copied};
-ghost use Rattle.psy_breach.specs.Kinds.{before, is_sign, is_sign_kind, is_word, is_word_kind, name_at, name_in, number_at, number_in};
+ghost use Rattle.psy_breach.specs.Kinds.{before, is_sign, is_word, name_at, number_at};
 
 use psy_tree::{Kind, Sign, Token, Word};
 
@@ -10,16 +10,12 @@ pub fn is_word(token: Option<&Token>, word: Word) -> bool
     ensures { result ≡ is_word (option_copied token.entry) word }
 {
     match token {
-        Some(token) => is_word_kind(&token.kind, word),
-        None => false,
-    }
-}
-
-fn is_word_kind(kind: &Kind, word: Word) -> bool
-    ensures { result ≡ is_word_kind kind.now word }
-{
-    match kind {
-        Kind::Word(here) => *here == word,
+        Some(
+            Token {
+                kind: Kind::Word(here),
+                ..
+            },
+        ) => *here == word,
         _ => false,
     }
 }
@@ -29,16 +25,12 @@ pub fn is_sign(token: Option<&Token>, sign: Sign) -> bool
     ensures { result ≡ is_sign (option_copied token.entry) sign }
 {
     match token {
-        Some(token) => is_sign_kind(&token.kind, sign),
-        None => false,
-    }
-}
-
-fn is_sign_kind(kind: &Kind, sign: Sign) -> bool
-    ensures { result ≡ is_sign_kind kind.now sign }
-{
-    match kind {
-        Kind::Sign(here) => *here == sign,
+        Some(
+            Token {
+                kind: Kind::Sign(here),
+                ..
+            },
+        ) => *here == sign,
         _ => false,
     }
 }
@@ -48,16 +40,12 @@ pub fn name_at(token: Option<&Token>) -> &[u8]
     ensures { result.now ≡ name_at (option_copied token.entry) }
 {
     match token {
-        Some(token) => name_in(&token.kind),
-        None => b"",
-    }
-}
-
-fn name_in(kind: &Kind) -> &[u8]
-    ensures { result.now ≡ name_in kind.now }
-{
-    match kind {
-        Kind::Name(text) => text.bytes(),
+        Some(
+            Token {
+                kind: Kind::Name(text),
+                ..
+            },
+        ) => text.bytes(),
         _ => b"",
     }
 }
@@ -67,16 +55,12 @@ pub fn number_at(token: Option<&Token>) -> Option<u32>
     ensures { result ≡ number_at (option_copied token.entry) }
 {
     match token {
-        Some(token) => number_in(&token.kind),
-        None => None,
-    }
-}
-
-fn number_in(kind: &Kind) -> Option<u32>
-    ensures { result ≡ number_in kind.now }
-{
-    match kind {
-        Kind::Number(value) => Some(*value),
+        Some(
+            Token {
+                kind: Kind::Number(value),
+                ..
+            },
+        ) => Some(*value),
         _ => None,
     }
 }

@@ -1,48 +1,38 @@
 //! What is told of a name of another sort than its place asks for, and of a word that stands elsewhere.
-ghost use Rattle.std.specs.Prelude.{◌≡◌, ◌≤◌, ◌++◌, OnOk};
+ghost use Rattle.std.specs.Prelude.{◌≡◌, ◌≤◌};
 ghost use Rattle.std.specs.Option.{option_copied};
-ghost use Rattle.psy_breach.specs.Wrong.{arguments_told, assigned_way, is_closing, is_miscalled, is_shared};
-ghost use Rattle.psy_breach.specs.Wrong.{is_type, is_unseen, is_value, of_type, parameters, value_way};
-ghost use Rattle.psy_breach.specs.Wrong.{way, words_of_type, wrong_name_told, wrong_of_told, wrong_token_told, wrong_told, wrong_word};
+ghost use Rattle.psy_breach.specs.Wrong.{assigned_way, is_shared, is_unseen, is_value, of_type, parameters, value_way};
+ghost use Rattle.psy_breach.specs.Wrong.{way, words_of_type, wrong_name, wrong_told, wrong_word};
+ghost use Rattle.psy_page.specs.Told.{said, sentence};
 
-use crate::declared::{How, Sort, last_head, reached, sort_of};
-use crate::role::{Role, role_of};
+use crate::declared::{Sort, is_function, last_head, sort_of};
+use crate::role::{Role, is_called, role_of};
+use crate::sentences as words;
 use crate::token::{is_sign, is_word};
-use crate::told::{add_declared_of, add_quoted};
-use psy_text::write::add_number;
+use crate::told::declared_as;
+use psy_page::Piece::{Long, Raw};
+use psy_page::Told;
 use psy_tree::{Kind, Sign, Token, Word};
-use std::alloc::AllocError;
 
-/// Adds what a name is, and what its place asks for; of a word, where it may stand.
-pub fn add_wrong(
-    out: &mut Vec<u8>,
+/// What a name is, and what its place asks for; of a word, where it may stand.
+pub fn wrong_told<'a>(
     text: &[u8],
-    tokens: &[Token],
     front: &[Token],
-    back: &[Token],
-) -> Result<(), AllocError>
-    ensures { OnOk result (out.new.items ≡ out.old.items ++ wrong_told text.now tokens.now front.now back.now) }
+    back: &'a [Token],
+    found: Option<&[Token]>,
+) -> Option<Told<'a>>
+    ensures { said result ≡ wrong_told text.now front.now back.now (option_copied found.entry) }
 {
-    match back {
-        [token, ..] => add_wrong_token(out, text, tokens, front, back, &token.kind),
-        [] => Ok(()),
-    }
-}
-
-fn add_wrong_token(
-    out: &mut Vec<u8>,
-    text: &[u8],
-    tokens: &[Token],
-    front: &[Token],
-    back: &[Token],
-    kind: &Kind,
-) -> Result<(), AllocError>
-    ensures { OnOk result (out.new.items ≡ out.old.items ++ wrong_token_told text.now tokens.now front.now back.now kind.now) }
-{
-    match kind {
-        Kind::Name(name) => add_wrong_name(out, text, tokens, front, back, name.bytes()),
-        Kind::Word(word) => out.extend_from_slice(wrong_word(*word)),
-        _ => Ok(()),
+    match &back.first()?.kind {
+        Kind::Name(name) => Some(wrong_name(
+            text,
+            name.bytes(),
+            found?,
+            sort_of(last_head(front)),
+            role_of(front, back),
+        )),
+        Kind::Word(word) => Some(Told::Plain(wrong_word(*word))),
+        _ => None,
     }
 }
 
@@ -50,74 +40,40 @@ fn wrong_word(word: Word) -> &'static [u8]
     ensures { result.now ≡ wrong_word word }
 {
     match word {
-        Word::Return =>
-            b"`return` stands in functions alone: what an agent does ends at its `advance`",
-        _ =>
-            b"`past`, `ready`, `take`, `send` and `advance` stand in agents alone: hand a function what it needs as an argument",
+        Word::Return => words::RETURN,
+        _ => words::IN_AGENTS,
     }
 }
 
-fn add_wrong_name(
-    out: &mut Vec<u8>,
+// What is told of a name that has this declaration, in what is declared so.
+fn wrong_name<'a>(
     text: &[u8],
-    tokens: &[Token],
-    front: &[Token],
-    back: &[Token],
-    name: &[u8],
-) -> Result<(), AllocError>
-    ensures { OnOk result (out.new.items ≡ out.old.items ++ wrong_name_told text.now tokens.now front.now back.now name.now) }
-{
-    match reached(How::Same, name, tokens, front) {
-        Some(declaration) => add_wrong_of(
-            out,
-            text,
-            name,
-            declaration,
-            last_head(front),
-            role_of(front, back),
-        ),
-        None => Ok(()),
-    }
-}
-
-fn add_wrong_of(
-    out: &mut Vec<u8>,
-    text: &[u8],
-    name: &[u8],
+    name: &'a [u8],
     declaration: &[Token],
-    head: &[Token],
+    here: Option<Sort>,
     role: Role,
-) -> Result<(), AllocError>
-    ensures { OnOk result (out.new.items ≡ out.old.items ++ wrong_of_told text.now name.now declaration.now head.now role) }
+) -> Told<'a>
+    ensures { sentence result ≡ wrong_name text.now name.now declaration.now here role }
 {
     let sort = sort_of(declaration);
-    if is_miscalled(role, sort) {
-        add_arguments(out, name, parameters(declaration))
-    } else if is_unseen(role, sort_of(head), sort) {
-        add_declared_of(
-            out,
-            text,
-            name,
-            declaration,
-            b": a function sees its own parameters and variables alone, so hand it the value as an argument",
+    if is_called(role) && is_function(sort) {
+        Told::Two(
+            words::ARGUMENTS,
+            Raw(name),
+            Long(parameters(declaration) as u64),
         )
+    } else if is_unseen(role, here, sort) {
+        declared_as(text, name, declaration, words::UNSEEN)
     } else {
-        add_declared_of(out, text, name, declaration, way(sort, role))
+        declared_as(text, name, declaration, way(sort, role))
     }
-}
-
-// Is it a function that is called?
-fn is_miscalled(role: Role, sort: Option<Sort>) -> bool
-    ensures { result ≡ is_miscalled role sort }
-{
-    matches!((role, sort), (Role::Function, Some(Sort::Function)))
 }
 
 // Does a function name what agents share?
-fn is_unseen(role: Role, head: Option<Sort>, sort: Option<Sort>) -> bool
-    ensures { result ≡ is_unseen role head sort }
+fn is_unseen(role: Role, here: Option<Sort>, sort: Option<Sort>) -> bool
+    ensures { result ≡ is_unseen role here sort }
 {
-    is_value(role) && (is_miscalled(Role::Function, head) && is_shared(sort))
+    is_value(role) && (is_function(here) && is_shared(sort))
 }
 
 fn is_value(role: Role) -> bool
@@ -146,7 +102,7 @@ fn words_of_type(declaration: &[Token]) -> usize
     let mut many = 0;
     let mut rest = declaration;
     'each: while let [token, more @ ..] = rest {
-        if is_closing(token) {
+        if is_sign(Some(token), Sign::CloseRound) {
             return many;
         }
         many += of_type(token);
@@ -160,28 +116,11 @@ fn of_type(token: &Token) -> usize
     ensures value { result ≡ of_type token.now }
     ensures small { result ≤ 1 }
 {
-    if is_type(token) { 1 } else { 0 }
-}
-
-fn is_closing(token: &Token) -> bool
-    ensures { result ≡ is_closing token.now }
-{
-    is_sign(Some(token), Sign::CloseRound)
-}
-
-fn is_type(token: &Token) -> bool
-    ensures { result ≡ is_type token.now }
-{
-    is_word(Some(token), Word::Int)
-}
-
-#[tactic(auto, unfolding(crate::specs::Wrong::arguments_told))]
-fn add_arguments(out: &mut Vec<u8>, name: &[u8], parameters: usize) -> Result<(), AllocError>
-    ensures { OnOk result (out.new.items ≡ out.old.items ++ arguments_told name.now parameters) }
-{
-    add_quoted(out, name)?;
-    out.extend_from_slice(b" takes this number of arguments: ")?;
-    add_number(out, parameters as u64)
+    if is_word(Some(token), Word::Int) {
+        1
+    } else {
+        0
+    }
 }
 
 // What stands where, and what to do.
@@ -189,14 +128,14 @@ fn way(sort: Option<Sort>, role: Role) -> &'static [u8]
     ensures { result.now ≡ way sort role }
 {
     match role {
-        Role::Clock => b", and here a clock is named",
-        Role::Parent => b", and a clock is derived from `tick` or from a clock",
-        Role::Agent => b", and here an agent is named",
-        Role::Target => b", and messages are sent to a stream",
-        Role::Messages => b", and `ready` and `take` are asked of a stream",
-        Role::Past => b", and `past` looks at a temporal variable or an input",
-        Role::Function => b", and only a function is called",
-        Role::Cell => b", and only an array has cells, as one declared by `int a[4];`",
+        Role::Clock => words::AT_CLOCK,
+        Role::Parent => words::AT_PARENT,
+        Role::Agent => words::AT_AGENT,
+        Role::Target => words::AT_TARGET,
+        Role::Messages => words::AT_MESSAGES,
+        Role::Past => words::AT_PAST,
+        Role::Function => words::AT_CALL,
+        Role::Cell => words::AT_CELL,
         Role::Assigned => assigned_way(sort),
         Role::Value => value_way(sort),
     }
@@ -206,10 +145,10 @@ fn assigned_way(sort: Option<Sort>) -> &'static [u8]
     ensures { result.now ≡ assigned_way sort }
 {
     match sort {
-        Some(Sort::Array) => b", of which a cell is assigned, as in `a[0] = 1;`",
-        Some(Sort::Stream) => b", to which messages are sent, as in `send 1 to s after 0 on c;`",
-        Some(Sort::Input) => b", which comes from outside and isn't assigned",
-        _ => b", and only a variable is assigned",
+        Some(Sort::Array) => words::ASSIGNED_ARRAY,
+        Some(Sort::Stream) => words::ASSIGNED_STREAM,
+        Some(Sort::Input) => words::ASSIGNED_INPUT,
+        _ => words::ASSIGNED_OTHER,
     }
 }
 
@@ -217,10 +156,10 @@ fn value_way(sort: Option<Sort>) -> &'static [u8]
     ensures { result.now ≡ value_way sort }
 {
     match sort {
-        Some(Sort::Array) => b", of which a cell has a value, as in `a[0]`",
-        Some(Sort::Stream) => b", of which `take` gives a message, and `ready` how many there are",
-        Some(Sort::Input) => b", which `past` alone looks at, as in `past(x, 0)`",
-        Some(Sort::Function) => b", which has a value where it is called, as in `f(1)`",
-        _ => b", and has no value",
+        Some(Sort::Array) => words::VALUE_OF_ARRAY,
+        Some(Sort::Stream) => words::VALUE_OF_STREAM,
+        Some(Sort::Input) => words::VALUE_OF_INPUT,
+        Some(Sort::Function) => words::VALUE_OF_FUNCTION,
+        _ => words::NO_VALUE,
     }
 }

@@ -1,3 +1,4 @@
 -- The lemmas of this crate, by subject.
+mod FirstFound
 mod LinesSaid
 mod OneClaim

@@ -1,19 +1,11 @@
 -- What comes of the assertions of a text on a log.
-use Rattle.std.specs.Prelude.{◌≡◌, ℕ, Bool, true, false, not, List, Option, find, option_map}
+use Rattle.std.specs.Prelude.{◌≡◌, ℕ, not, List, Option, find, option_map}
 use Rattle.psy_log.specs.declared.note.Note.{Note}
 use Rattle.psy_text.specs.Lines.{lines_of}
-use Rattle.psy_assert.specs.declared.verdict.Verdict.{Verdict}
-use Rattle.psy_assert.specs.declared.verdict.Verdict.TheVariants as verdict
-use Rattle.psy_assert.specs.Verdicts.{verdict_of}
+use Rattle.psy_assert.specs.Verdicts.{is_kept, verdict_of}
 use Rattle.psy_claims.specs.declared.claimed.Claimed.{Claimed}
 use Rattle.psy_claims.specs.Breaches.{failure_text}
 use Rattle.psy_claims.specs.Claims.{Say}
-
--- It is kept.
-abbrev pub is_kept : Verdict → Bool
-is_kept verdict.Kept = true
-is_kept (verdict.Broken note) = false
-is_kept verdict.Missing = false
 
 -- The first of some assertions that a run doesn't keep
 abbrev pub first_failing : List Note → List Claimed → Option Claimed

@@ -18,6 +18,8 @@ mod Publications
 mod QueuesThen
 mod Resumed
 mod Seats
+mod ShownFrom
+mod StillDates
 mod StreamLaws
 mod StreamsThen
 mod Values

@@ -11,3 +11,4 @@ pub mod Publications
 pub mod RollStanding
 pub mod Rolls
 pub mod Standing
+pub mod Still

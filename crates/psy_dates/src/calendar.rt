@@ -137,6 +137,13 @@ impl Calendar {
         self.least <= date
     }
 
+    /// A date that is no later than the next one of any clock.
+    pub fn least(&self) -> u64
+        ensures { All (λ next. result ≤ next) self.now }
+    {
+        self.least
+    }
+
     /// The next date of a clock.
     pub fn next(&self, clock: u32) -> u64
         requires { clock < length self.now }

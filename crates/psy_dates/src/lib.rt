@@ -9,6 +9,7 @@ mod commits;
 mod date;
 mod due;
 mod enters;
+pub mod laws;
 mod movers;
 mod moves;
 mod opening;
@@ -20,6 +21,7 @@ mod roll;
 mod seat;
 mod settles;
 mod shared;
+mod still;
 
 pub use calendar::Calendar;
 pub use date::at_date;

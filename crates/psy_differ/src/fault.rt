@@ -1,7 +1,7 @@
 //! Why two texts aren't compared.
 ghost use Rattle.std.specs.Prelude.{◌≡◌};
 
-use std::alloc::{AllocError, AllocFailed};
+use std::alloc::AllocError;
 use thiserror::Error;
 
 /// Why two texts aren't compared.
@@ -24,16 +24,6 @@ impl From<AllocError> for DiffFault {
     ghost from_gives = { λ _ fault. fault ≡ Memory };
 
     fn from(_error: AllocError) -> DiffFault {
-        DiffFault::Memory
-    }
-}
-
-impl<T: Drop> From<AllocFailed<T>> for DiffFault {
-    ghost use Rattle.psy_differ.specs.declared.fault.DiffFault.TheVariants.{Memory};
-
-    ghost from_gives = { λ _ fault. fault ≡ Memory };
-
-    fn from(_failed: AllocFailed<T>) -> DiffFault {
         DiffFault::Memory
     }
 }

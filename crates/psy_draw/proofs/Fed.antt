@@ -1,5 +1,5 @@
 -- What notes add that come one by one.
-use Rattle.std.proofs.Common.{◌≡◌, ℕ, ◌+◌, ◌<◌, ◌≤◌, Bool, true, false, ◌&&◌, not, cond, List, [], ◌∷◌, ◌++◌, None, Some, option_map, is_some, length, min, nat_lt, take, get_or, refl, sym, ap, subst, ◌∙◌, arith}
+use Rattle.std.proofs.Common.{◌≡◌, ℕ, ◌+◌, ◌<◌, ◌≤◌, Bool, true, false, ◌&&◌, not, cond, List, [], ◌∷◌, ◌++◌, append_assoc, None, Some, option_map, is_some, length, min, nat_lt, take, get_or, refl, sym, ap, subst, ◌∙◌, arith}
 use Rattle.std.specs.List.{count_by, flat_map, list_all, prefix_len, sum_by}
 use Rattle.std.proofs.lemmas.Bool.{false≢true}
 use Rattle.std.proofs.lemmas.Grind.{common_steps}
@@ -13,13 +13,16 @@ use Rattle.psy_draw.specs.Gathering.{is_known}
 use Rattle.psy_draw.specs.Listing.{first_failing}
 use Rattle.psy_draw.specs.Tables.{is_among}
 
--- What holds with one more note holds of one more of a list.
-pub one_more : (P : List Note → Type 0) (notes : List Note) (i : ℕ) (d : Note) → i < length notes → P (take i notes ++ get_or notes i d ∷ []) → P (take (i + 1) notes)
-one_more P notes i d within p = subst P (sym (take_more notes i d within)) p
+-- Notes, and more behind them
+module _ (P : List Note → Type 0) (notes more : List Note) (i : ℕ) where
+  -- What holds with one more
+  pub one_behind : (n : Note) → i < length more → P ((notes ++ take i more) ++ get_or more i n ∷ []) → P (notes ++ take (i + 1) more)
+  one_behind n within p =
+      subst P (append_assoc notes (take i more) (get_or more i n ∷ []) ∙ ap (λ front. notes ++ front) (sym (take_more more i n within))) p
 
--- What holds of all of a list
-pub of_all : (P : List Note → Type 0) (notes : List Note) (i : ℕ) → length notes ≤ i → P (take i notes) → P notes
-of_all P notes i all p = subst P (take_all i notes all) p
+  -- What holds of all of them
+  pub all_behind : length more ≤ i → P (notes ++ take i more) → P (notes ++ more)
+  all_behind all p = subst (λ front. P (notes ++ front)) (take_all i more all) p
 
 -- What one more note tells
 pub tells_more : {A : Type 0} (f : Note → List A) (notes : List Note) (n : Note) → flat_map f (notes ++ n ∷ []) ≡ flat_map f notes ++ f n

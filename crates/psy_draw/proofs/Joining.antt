@@ -1,5 +1,5 @@
 -- Texts that are added one behind the other.
-use Rattle.std.proofs.Common.{◌≡◌, ℕ, ◌+◌, Bool, false, cond, List, [], ◌∷◌, ◌++◌, map, refl, sym, ap, subst, ◌∙◌, append_assoc}
+use Rattle.std.proofs.Common.{◌≡◌, ℕ, ◌+◌, Bool, false, cond, List, [], ◌++◌, sym, ap, subst, ◌∙◌, append_assoc}
 use Rattle.std.specs.List.{flat_map, range_with_len}
 use Rattle.std.proofs.lemmas.List.{flat_map_more}
 use Rattle.psy_lists.proofs.lemmas.Ranges.{range_more}
@@ -8,10 +8,6 @@ use Rattle.psy_lists.proofs.lemmas.Ranges.{range_more}
 pub three : (a b c old one two new : List ℕ) → one ≡ old ++ a → two ≡ one ++ b → new ≡ two ++ c → new ≡ old ++ (a ++ (b ++ c))
 three a b c old one two new e f g =
     g ∙ ap (λ t. t ++ c) (f ∙ ap (λ t. t ++ b) e ∙ append_assoc old a b) ∙ append_assoc old (a ++ b) c ∙ ap (λ t. old ++ t) (append_assoc a b c)
-
--- Four texts
-pub four : (a b c d old one two three new : List ℕ) → one ≡ old ++ a → two ≡ one ++ b → three ≡ two ++ c → new ≡ three ++ d → new ≡ old ++ (a ++ (b ++ (c ++ d)))
-four a b c d old one two between new e f g h = three a b (c ++ d) old one two new e f (h ∙ ap (λ t. t ++ d) g ∙ append_assoc two c d)
 
 -- Six texts, behind none
 pub six : (a b c d e f one two three four five new : List ℕ) → one ≡ a → two ≡ one ++ b → three ≡ two ++ c → four ≡ three ++ d → five ≡ four ++ e → new ≡ five ++ f
@@ -27,14 +23,6 @@ text_else b old text new out e = subst (λ t. new ≡ old ++ cond t [] text) (sy
 -- The second of two numbers
 pub number_else : (b : Bool) (one two n : ℕ) → b ≡ false → n ≡ two → n ≡ cond b one two
 number_else b one two n out e = subst (λ t. n ≡ cond t one two) (sym out) e
-
--- What goes on behind a text that goes on behind another
-pub onto : (old more last text : List ℕ) → text ≡ old ++ more → text ++ last ≡ old ++ (more ++ last)
-onto old more last text e = ap (λ t. t ++ last) e ∙ append_assoc old more last
-
-map_same : (xs : List ℕ) → map (λ (k : ℕ). k) xs ≡ xs
-map_same [] = refl
-map_same (x ∷ xs) = ap (λ ys. x ∷ ys) (map_same xs)
 
 -- The text of one number more
 pub numbered : (f : ℕ → List ℕ) (n : ℕ) (old text new : List ℕ) → text ≡ old ++ flat_map f (range_with_len 0 n) → new ≡ text ++ f n → new ≡ old ++ flat_map f (range_with_len 0 (n + 1))

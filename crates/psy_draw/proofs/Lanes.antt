@@ -42,13 +42,6 @@ adds_both place a b old between new p q =
 pub adds_behind : (place : ℕ → ℕ) (a b : List Shown) (old new : List Lane) → Are place a old → AddsLanes place b old new → Are place (a ++ b) new
 adds_behind place a b old new are p = subst (Are place (a ++ b)) (sym p.1) (are_both place a b old p.0 are p.2)
 
--- How many there are then
-pub adds_length : (place : ℕ → ℕ) (more : List Shown) (old new : List Lane) → AddsLanes place more old new → length new ≡ length old + length more
-adds_length place more old new p =
-    let added = are_length place more p.0 p.2 in
-    let both = ap length p.1 ∙ length-append old p.0 in
-    omega (arith, added, both)
-
 -- One more height
 pub heights_more : (lanes : List Lane) (lane : Lane) → heights (lanes ++ lane ∷ []) ≡ heights lanes + height_of lane.shape
 heights_more [] lane = omega arith

@@ -16,9 +16,7 @@ mod Last
 mod NameTables
 mod Pictured
 mod Placing
-mod PlainRows
 mod Refused
-mod Rows
 mod Sayings
 mod Standing
 mod SummaryNames

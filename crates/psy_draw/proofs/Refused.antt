@@ -3,8 +3,6 @@ use Rattle.std.proofs.Common.{◌≡◌, Result, Ok, Err, ap}
 use Rattle.std.specs.Prelude.{IfOk, OnOk}
 use Rattle.psy_draw.specs.declared.fault.DrawFault.{DrawFault}
 use Rattle.psy_draw.specs.declared.fault.DrawFault.TheVariants as fault
-use Rattle.psy_draw.specs.declared.room.RoomFault.{RoomFault}
-use Rattle.psy_draw.specs.declared.room.RoomFault.TheVariants as room
 
 -- The fault of a refusal
 fault_of : {T : Type 0} → Result T DrawFault → DrawFault
@@ -15,16 +13,6 @@ fault_of (Ok x) = fault.Memory
 pub fault_is : {T : Type 0} (a b : DrawFault) → ◌≡◌ {A = Result T DrawFault} (Err a) (Err b) → a ≡ b
 unfolding fault_of
 fault_is a b e = ap fault_of e
-
--- The fault of a plan that isn't laid out
-room_fault_of : {T : Type 0} → Result T RoomFault → RoomFault
-room_fault_of (Err f) = f
-room_fault_of (Ok x) = room.Memory
-
--- Faults that are one
-pub room_fault_is : {T : Type 0} (a b : RoomFault) → ◌≡◌ {A = Result T RoomFault} (Err a) (Err b) → a ≡ b
-unfolding room_fault_of
-room_fault_is a b e = ap room_fault_of e
 
 -- What holds, holds where there is a value.
 pub on_ok : {T E : Type 0} (P : Type 0) (r : Result T E) → P → OnOk r P

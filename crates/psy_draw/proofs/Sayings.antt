@@ -1,5 +1,5 @@
 -- What notes tell is told by what they say.
-use Rattle.std.proofs.Common.{◌≡◌, ℕ, ◌+◌, ◌-◌, ◌^◌, Bool, true, false, ◌&&◌, ◌||◌, not, cond, List, [], ◌∷◌, ◌++◌, Option, None, Some, bytes_eq, map, max, min, nat_le, refl, sym, ap, ◌∙◌}
+use Rattle.std.proofs.Common.{◌≡◌, Bor, ℕ, ◌+◌, ◌-◌, ◌^◌, Bool, true, false, ◌&&◌, ◌||◌, not, cond, List, [], ◌∷◌, ◌++◌, None, Some, bytes_eq, map, max, min, nat_le, refl, sym, ap, ◌∙◌}
 use Rattle.std.specs.Prelude.{fold}
 use Rattle.std.specs.List.{count_by, flat_map, list_any}
 use Rattle.std.proofs.lemmas.Bool.{false≢true}
@@ -8,11 +8,11 @@ use Rattle.psy_log.specs.declared.form.Form.TheVariants as form
 use Rattle.psy_log.specs.declared.note.Note.{Note}
 use Rattle.psy_log.specs.declared.note.Note.TheVariants as note
 use Rattle.psy_log.specs.Forms.{says}
-use Rattle.psy_log.specs.Table.{Said, short, long, value, name}
+use Rattle.psy_log.specs.Table.{Said, short, long, value, name, short_or_none, long_or_none}
 use Rattle.psy_draw.specs.declared.outset.Outset.{Outset}
 use Rattle.psy_draw.specs.Columns.{Dated, dated}
 use Rattle.psy_draw.specs.Dates.{date_of, last_date}
-use Rattle.psy_draw.specs.Gathering.{AreFirst, Counts, first_values, is_dated, undated}
+use Rattle.psy_draw.specs.Gathering.{Counts, first_values, is_dated, undated}
 use Rattle.psy_draw.specs.Lanes.{is_asked, last_alone, may_have_lane, values_before}
 use Rattle.psy_draw.specs.Listing.{Lists, ends_agent, ends_stream, ends_variable}
 use Rattle.psy_draw.specs.Sayings.{HasSummary}
@@ -26,7 +26,7 @@ flat_by : {A : Type 0} (f : Note → List A) (g : Saying → List A) → ((n : N
 flat_by f g same [] = refl
 flat_by f g same (n ∷ notes) = ap (λ t. t ++ flat_map f notes) (same n) ∙ ap (λ t. g (says n) ++ t) (flat_by f g same notes)
 
-pub flat_same : {A : Type 0} (f : Note → List A) (g : Saying → List A) → ((n : Note) → f n ≡ g (says n)) → (some other : List Note) → map says some ≡ map says other
+flat_same : {A : Type 0} (f : Note → List A) (g : Saying → List A) → ((n : Note) → f n ≡ g (says n)) → (some other : List Note) → map says some ≡ map says other
     → flat_map f some ≡ flat_map f other
 flat_same f g same some other is = flat_by f g same some ∙ ap (flat_map g) is ∙ sym (flat_by f g same other)
 
@@ -114,7 +114,7 @@ counts_same names from some other outset is counts =
 -- ---- the summary
 
 -- Without the notes that have a date
-pub without_dated : {A : Type 0} (f : Note → List A) → ((n : Note) → is_dated n ≡ true → f n ≡ []) → (notes : List Note) → flat_map f notes ≡ flat_map f (undated notes)
+without_dated : {A : Type 0} (f : Note → List A) → ((n : Note) → is_dated n ≡ true → f n ≡ []) → (notes : List Note) → flat_map f notes ≡ flat_map f (undated notes)
 without_dated f none [] = refl
 without_dated f none (n ∷ notes) = by (is_dated n) refl (without_dated f none notes)
   where
@@ -135,71 +135,70 @@ any_undated p none (n ∷ notes) = by (is_dated n) refl (any_undated p none note
     by false e more =
         ap (λ t. p n || t) more ∙ ap (λ b. list_any p (cond (not b) (n ∷ undated notes) (undated notes))) (sym e)
 
--- Of notes with one summary it tells the same.
-pub same_summary : {A : Type 0} (f : Note → List A) (g : Saying → List A) → ((n : Note) → f n ≡ g (says n)) → ((n : Note) → is_dated n ≡ true → f n ≡ [])
-    → (notes summary : List Note) → HasSummary notes summary → flat_map f summary ≡ flat_map f notes
-same_summary f g by none notes summary has =
-    without_dated f none summary ∙ flat_same f g by (undated summary) (undated notes) (sym has) ∙ sym (without_dated f none notes)
+-- A note of a summary with its words in place of its own, and one note for all others
+abbrev at : List ℕ → Bor (List ℕ)
+at bytes = record { ref_ptr = (0, 0); now = bytes }
 
-any_summary : (p : Note → Bool) (q : Saying → Bool) → ((n : Note) → p n ≡ q (says n)) → ((n : Note) → is_dated n ≡ true → p n ≡ false) → (notes summary : List Note)
-    → HasSummary notes summary → list_any p summary ≡ list_any p notes
-any_summary p q by none notes summary has =
-    any_undated p none summary ∙ any_by p q by (undated summary) ∙ ap (list_any q) (sym has) ∙ sym (any_by p q by (undated notes)) ∙ sym (any_undated p none notes)
+abbrev pub rest : Note → Note
+rest (note.AgentEnd agent count slack) = note.AgentEnd (at agent.now) count slack
+rest (note.VariableEnd variable size reach) = note.VariableEnd (at variable.now) size reach
+rest (note.StreamEnd stream size held) = note.StreamEnd (at stream.now) size held
+rest _ = note.Always
 
-abbrev ends_agent_by : List ℕ → Form → List Said → Bool
-ends_agent_by called form.AgentEnd (name agent ∷ said) = bytes_eq called agent
-ends_agent_by called _ said = false
+abbrev rest_by : Form → List Said → Note
+rest_by form.AgentEnd (name agent ∷ long count ∷ long_or_none slack ∷ said) = note.AgentEnd (at agent) count slack
+rest_by form.VariableEnd (name variable ∷ short size ∷ short_or_none reach ∷ said) = note.VariableEnd (at variable) size reach
+rest_by form.StreamEnd (name stream ∷ short size ∷ short held ∷ said) = note.StreamEnd (at stream) size held
+rest_by _ said = note.Always
 
-ends_agent_step : (called : List ℕ) (n : Note) → ends_agent called n ≡ ends_agent_by called (says n).0 (says n).1
-ends_agent_step called (note.Infeasible len demand supply None) = refl
-ends_agent_step called (note.Infeasible len demand supply (Some processor)) = refl
-ends_agent_step called (note.Refused what number None) = refl
-ends_agent_step called (note.Refused what number (Some at)) = refl
-ends_agent_step called _ = refl
+rest_is : (n : Note) → rest n ≡ rest_by (says n).0 (says n).1
+rest_is (note.Infeasible len demand supply None) = refl
+rest_is (note.Infeasible len demand supply (Some processor)) = refl
+rest_is (note.Refused what number None) = refl
+rest_is (note.Refused what number (Some at)) = refl
+rest_is _ = refl
 
-no_agent : (called : List ℕ) (n : Note) → is_dated n ≡ true → ends_agent called n ≡ false
-no_agent called (note.AgentEnd agent count slack) e = absurd (false≢true e)
-no_agent called _ e = refl
+rest_dated : (n : Note) → is_dated n ≡ true → rest n ≡ note.Always
+rest_dated (note.AgentEnd agent count slack) e = absurd (false≢true e)
+rest_dated (note.VariableEnd variable size reach) e = absurd (false≢true e)
+rest_dated (note.StreamEnd stream size held) e = absurd (false≢true e)
+rest_dated _ e = refl
 
-abbrev ends_variable_by : List ℕ → Form → List Said → Bool
-ends_variable_by called form.VariableEnd (name variable ∷ said) = bytes_eq called variable
-ends_variable_by called _ said = false
+-- Of notes with one summary it tells the same, where it looks at nothing else.
+pub same_summary : {A : Type 0} (f : Note → List A) → ((n : Note) → f n ≡ f (rest n)) → f note.Always ≡ [] → (notes summary : List Note) → HasSummary notes summary
+    → flat_map f summary ≡ flat_map f notes
+same_summary {A} f by none notes summary has =
+    let g : Saying → List A = λ s. f (rest_by s.0 s.1) in
+    let told : (n : Note) → f n ≡ g (says n) = λ n. by n ∙ ap f (rest_is n) in
+    let zero : (n : Note) → is_dated n ≡ true → f n ≡ [] = λ n e. by n ∙ ap f (rest_dated n e) ∙ none in
+    without_dated f zero summary ∙ flat_same f g told (undated summary) (undated notes) (sym has) ∙ sym (without_dated f zero notes)
 
-ends_variable_step : (called : List ℕ) (n : Note) → ends_variable called n ≡ ends_variable_by called (says n).0 (says n).1
-ends_variable_step called (note.Infeasible len demand supply None) = refl
-ends_variable_step called (note.Infeasible len demand supply (Some processor)) = refl
-ends_variable_step called (note.Refused what number None) = refl
-ends_variable_step called (note.Refused what number (Some at)) = refl
-ends_variable_step called _ = refl
+any_summary : (p : Note → Bool) → ((n : Note) → p n ≡ p (rest n)) → p note.Always ≡ false → (notes summary : List Note) → HasSummary notes summary
+    → list_any p summary ≡ list_any p notes
+any_summary p by none notes summary has =
+    let q : Saying → Bool = λ s. p (rest_by s.0 s.1) in
+    let told : (n : Note) → p n ≡ q (says n) = λ n. by n ∙ ap p (rest_is n) in
+    let zero : (n : Note) → is_dated n ≡ true → p n ≡ false = λ n e. by n ∙ ap p (rest_dated n e) ∙ none in
+    any_undated p zero summary ∙ any_by p q told (undated summary) ∙ ap (list_any q) (sym has) ∙ sym (any_by p q told (undated notes)) ∙ sym (any_undated p zero notes)
 
-no_variable : (called : List ℕ) (n : Note) → is_dated n ≡ true → ends_variable called n ≡ false
-no_variable called (note.VariableEnd variable size reach) e = absurd (false≢true e)
-no_variable called _ e = refl
+agent_step : (called : List ℕ) (n : Note) → ends_agent called n ≡ ends_agent called (rest n)
+agent_step called (note.AgentEnd agent count slack) = refl
+agent_step called _ = refl
 
-abbrev ends_stream_by : List ℕ → Form → List Said → Bool
-ends_stream_by called form.StreamEnd (name stream ∷ said) = bytes_eq called stream
-ends_stream_by called _ said = false
+variable_step : (called : List ℕ) (n : Note) → ends_variable called n ≡ ends_variable called (rest n)
+variable_step called (note.VariableEnd variable size reach) = refl
+variable_step called _ = refl
 
-ends_stream_step : (called : List ℕ) (n : Note) → ends_stream called n ≡ ends_stream_by called (says n).0 (says n).1
-ends_stream_step called (note.Infeasible len demand supply None) = refl
-ends_stream_step called (note.Infeasible len demand supply (Some processor)) = refl
-ends_stream_step called (note.Refused what number None) = refl
-ends_stream_step called (note.Refused what number (Some at)) = refl
-ends_stream_step called _ = refl
-
-no_stream : (called : List ℕ) (n : Note) → is_dated n ≡ true → ends_stream called n ≡ false
-no_stream called (note.StreamEnd stream size held) e = absurd (false≢true e)
-no_stream called _ e = refl
+stream_step : (called : List ℕ) (n : Note) → ends_stream called n ≡ ends_stream called (rest n)
+stream_step called (note.StreamEnd stream size held) = refl
+stream_step called _ = refl
 
 -- The names that the summary lists are those of the notes.
 pub agents_listed : (notes summary : List Note) (names : List (List ℕ)) → HasSummary notes summary → Lists ends_agent summary names → Lists ends_agent notes names
-agents_listed notes summary names has lists called =
-    lists called ∙ any_summary (ends_agent called) (λ s. ends_agent_by called s.0 s.1) (ends_agent_step called) (no_agent called) notes summary has
+agents_listed notes summary names has lists called = lists called ∙ any_summary (ends_agent called) (agent_step called) refl notes summary has
 
 pub variables_listed : (notes summary : List Note) (names : List (List ℕ)) → HasSummary notes summary → Lists ends_variable summary names → Lists ends_variable notes names
-variables_listed notes summary names has lists called =
-    lists called ∙ any_summary (ends_variable called) (λ s. ends_variable_by called s.0 s.1) (ends_variable_step called) (no_variable called) notes summary has
+variables_listed notes summary names has lists called = lists called ∙ any_summary (ends_variable called) (variable_step called) refl notes summary has
 
 pub streams_listed : (notes summary : List Note) (names : List (List ℕ)) → HasSummary notes summary → Lists ends_stream summary names → Lists ends_stream notes names
-streams_listed notes summary names has lists called =
-    lists called ∙ any_summary (ends_stream called) (λ s. ends_stream_by called s.0 s.1) (ends_stream_step called) (no_stream called) notes summary has
+streams_listed notes summary names has lists called = lists called ∙ any_summary (ends_stream called) (stream_step called) refl notes summary has

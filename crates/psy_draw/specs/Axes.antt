@@ -1,8 +1,9 @@
 -- The axis of dates, and the grid.
-use Rattle.std.specs.Prelude.{◌+◌, ◌-◌, ◌*◌, ◌/◌, ℕ, List, [], ◌∷◌, ◌++◌, Option, None, Some, codes, cond, decimal, nat_le}
+use Rattle.std.specs.Prelude.{◌+◌, ◌-◌, ◌*◌, ◌/◌, ℕ, List, [], ◌∷◌, ◌++◌, codes, cond, decimal, nat_le}
 use Rattle.std.specs.List.{flat_map, range_with_len}
-use Rattle.psy_draw.specs.declared.axis.TheConstants.{LONGEST_STEP, STEPS}
-use Rattle.psy_draw.specs.Places.{x_of}
+use Rattle.psy_draw.specs.declared.axis.TheConstants.{AXIS, DATE, GRID_LINE, LONGEST_STEP, STEPS}
+use Rattle.psy_draw.specs.declared.markup.TheConstants.{GROUP_END, PATH, PATH_END}
+use Rattle.psy_page.specs.Templates.{fill}
 
 -- Of these steps the first by which so many dates are crossed in at most 16, and the longest one where none of them does
 abbrev pub step_among : List ℕ → ℕ → ℕ
@@ -17,43 +18,30 @@ step_of dates = step_among STEPS dates
 abbrev pub first_tick : ℕ → ℕ → ℕ
 first_tick from step = (from + step - 1) / step * step
 
--- The tick of a number, counted from 0, where it isn't past the last date
-abbrev pub tick_by : ℕ → ℕ → ℕ → ℕ → Option ℕ
-tick_by from to step number = cond (nat_le (first_tick from step + number * step) to) (Some (first_tick from step + number * step)) None
+-- A date alone, where it isn't past the last one
+abbrev pub tick_at : ℕ → ℕ → List ℕ
+tick_at last date = cond (nat_le date last) (date ∷ []) []
 
--- What is drawn of a tick, where there is one
-abbrev pub drawn_tick : (ℕ → List ℕ) → Option ℕ → List ℕ
-drawn_tick draw None = []
-drawn_tick draw (Some date) = draw date
+-- The dates at which the grid has lines: multiples of the step, of which at most 17 are tried
+abbrev pub tick_by : ℕ → ℕ → ℕ → ℕ → List ℕ
+tick_by from to step number = tick_at to (first_tick from step + number * step)
 
--- A line at a place, from one height to another
-abbrev pub grid_stroke : ℕ → ℕ → ℕ → List ℕ
-grid_stroke x top bottom = codes "M" ++ (decimal x ++ (codes " " ++ (decimal top ++ (codes "V" ++ decimal bottom))))
+abbrev pub ticks_of : ℕ → ℕ → List ℕ
+ticks_of from to = flat_map (tick_by from to (step_of (to - from))) (range_with_len 0 17)
 
--- The line of the tick of a number
-abbrev pub grid_line : ℕ → ℕ → ℕ → ℕ → ℕ → ℕ → ℕ → ℕ → List ℕ
-grid_line from to grain step left top bottom number = drawn_tick (λ date. grid_stroke (left + x_of from to grain date) top bottom) (tick_by from to step number)
+-- The line of a date, by the places of dates in a plot that begins at a place, from below the upper axis to a height
+abbrev pub grid_line : (ℕ → ℕ) → ℕ → ℕ → ℕ → List ℕ
+grid_line place left bottom date = fill GRID_LINE.now (decimal (left + place date) ∷ decimal 56 ∷ decimal bottom ∷ [])
 
--- The lines of the grid, from one height to another
-abbrev pub grid_text : ℕ → ℕ → ℕ → ℕ → ℕ → ℕ → List ℕ
-grid_text from to grain left top bottom =
-    codes "<path class=\"grid\" d=\"" ++ (flat_map (grid_line from to grain (step_of (to - from)) left top bottom) (range_with_len 0 17) ++ codes "\"/>\n")
+-- The lines of some dates
+abbrev pub grid_text : (ℕ → ℕ) → List ℕ → ℕ → ℕ → List ℕ
+grid_text place ticks left bottom = fill PATH.now (codes "grid" ∷ []) ++ (flat_map (grid_line place left bottom) ticks ++ PATH_END.now)
 
--- A date at a place
-abbrev pub date_text : ℕ → ℕ → List ℕ
-date_text x date = codes "<text x=\"" ++ (decimal x ++ (codes "\" y=\"19\">" ++ (decimal date ++ codes "</text>\n")))
+-- A date at its place
+abbrev pub axis_date : (ℕ → ℕ) → ℕ → List ℕ
+axis_date place date = fill DATE.now (decimal (place date) ∷ decimal date ∷ [])
 
--- The date of the tick of a number
-abbrev pub axis_date : ℕ → ℕ → ℕ → ℕ → ℕ → List ℕ
-axis_date from to grain step number = drawn_tick (λ date. date_text (x_of from to grain date) date) (tick_by from to step number)
-
--- The head of the axis at a place, with the word `date`
-abbrev pub axis_head : ℕ → ℕ → List ℕ
-axis_head left top =
-    codes "<g class=\"axis\" transform=\"translate(" ++ (decimal left ++ (codes " " ++ (decimal top ++ (codes ")\">\n<text class=\"word\" x=\"-"
-    ++ (decimal (left - 12) ++ codes "\" y=\"19\">date</text>\n")))))
-
--- The axis at a place: its head, and the dates of the grid
-abbrev pub axis_text : ℕ → ℕ → ℕ → ℕ → ℕ → List ℕ
-axis_text from to grain left top =
-    axis_head left top ++ (flat_map (axis_date from to grain (step_of (to - from))) (range_with_len 0 17) ++ codes "</g>\n")
+-- The axis at a place: the word `date`, and some dates
+abbrev pub axis_text : (ℕ → ℕ) → List ℕ → ℕ → ℕ → List ℕ
+axis_text place ticks left top =
+    fill AXIS.now (decimal left ∷ decimal top ∷ decimal (left - 12) ∷ []) ++ (flat_map (axis_date place) ticks ++ GROUP_END.now)

@@ -1,5 +1,5 @@
 -- What is kept of the values of a column.
-use Rattle.std.specs.Prelude.{◌≡◌, ◌≤ℤ◌, ◌^◌, ◌-◌, ◌||◌, ℤ, List, [], ◌∷◌, ◌++◌, Bool, true, All, ℕ}
+use Rattle.std.specs.Prelude.{◌≡◌, ◌≤ℤ◌, ◌^◌, ◌-◌, ◌||◌, ℤ, List, [], ◌∷◌, ◌++◌, Bool, true, false, All, ℕ}
 use Rattle.std.specs.Prelude.{cond, int_le, length, map, max, min, nat_le, slice_get, take_while}
 use Rattle.std.specs.Prelude.{Option, None, Some}
 use Rattle.std.specs.List.{Contains, flat_map, fold, list_all, list_any}
@@ -46,6 +46,11 @@ is_there place (w ∷ values) v = nat_le (place v.date) (place w.date)
 abbrev pub is_there_still : (ℕ → ℕ) → List Dated → Dated → Bool
 is_there_still place values v = is_there place values v || list_all (λ w. int_eq w.value v.value) values
 
+-- The rule of a variable's lane, or of a stream's
+abbrev pub rule : Bool → (ℕ → ℕ) → List Dated → Dated → Bool
+rule true place = is_there_still place
+rule false place = is_there place
+
 -- Values, and those behind them, in pieces, by such a rule: a value that doesn't go into the column of those before it begins another piece
 abbrev pub pieces_from : (List Dated → Dated → Bool) → List Dated → List Dated → List (List Dated)
 pieces_from goes piece [] = piece ∷ []
@@ -66,11 +71,6 @@ AreOf place _ _ = ⊥
 -- The column has one value alone.
 abbrev pub is_even : Column → Bool
 is_even c = int_le c.greatest c.least
-
--- Where the first of these columns begins, or the plot ends
-abbrev pub end_of : List Column → ℕ
-end_of [] = 960
-end_of (c ∷ columns) = c.x
 
 -- Where the first of these columns begins, or this
 abbrev pub end_by : List Column → ℕ → ℕ

@@ -1,25 +1,25 @@
 -- The line of a variable, which steps from value to value.
 use Rattle.std.specs.Prelude.{◌+◌, ◌-◌, ◌++◌, ◌&&◌, ◌||◌, ◌==◌, ℕ, ℤ, Bool, true, List, [], ◌∷◌, Option, None, Some}
-use Rattle.std.specs.Prelude.{codes, cond, decimal, int_le, int_lt, nat_le, not, pos}
+use Rattle.std.specs.Prelude.{cond, decimal, int_le, int_lt, nat_le, not, pos}
 use Rattle.std.specs.Fmt.{signed_decimal}
 use Rattle.std.specs.Bool.{beq}
 use Rattle.std.specs.Ordering.{int_eq}
 use Rattle.psy_draw.specs.declared.column.Column.{Column}
+use Rattle.psy_draw.specs.declared.curve.TheConstants.{AHEAD, LINE, LINE_END, SILENT_LINE, TICK, ZERO}
 use Rattle.psy_draw.specs.declared.labels.Side.{Side}
 use Rattle.psy_draw.specs.declared.labels.Side.TheVariants as side
 use Rattle.psy_draw.specs.declared.span.Span.{Span}
 use Rattle.psy_draw.specs.Columns.{is_even, none_greater, none_less, up_to, voiced_end}
 use Rattle.psy_draw.specs.Labels.{label_text, label_width}
 use Rattle.psy_draw.specs.Spans.{span_of, y_in}
-use Rattle.psy_draw.specs.Strokes.{silent_line, upright}
+use Rattle.psy_draw.specs.Strokes.{dashes, upright}
+use Rattle.psy_page.specs.Templates.{fill}
 
 -- ---- beside the line
 
 -- A value at the left of the line, at a height, and a tick
-unfoldable pub tick_text : ℕ → ℤ → List ℕ
-tick_text y value =
-    codes "<path class=\"tick\" d=\"M-4 " ++ (decimal y ++ (codes "H0\"/>\n<text class=\"bound\" x=\"-6\" y=\"" ++ (decimal (y + 3) ++ (codes "\">"
-    ++ (signed_decimal value ++ codes "</text>\n")))))
+abbrev pub tick_text : ℕ → ℤ → List ℕ
+tick_text y value = fill TICK.now (decimal y ∷ decimal (y + 3) ∷ signed_decimal value ∷ [])
 
 -- The greatest and the least value, where they differ
 abbrev pub bounds_text : Span → List ℕ
@@ -31,7 +31,7 @@ zero_number y = cond (nat_le 26 y && nat_le (y + 10) 48) (tick_text y (pos 0)) [
 
 -- A line at that height, and the number
 abbrev pub zero_at : ℕ → List ℕ
-zero_at y = codes "<path class=\"zero\" d=\"M0 " ++ (decimal y ++ (codes "H" ++ (decimal 960 ++ (codes "\"/>\n" ++ zero_number y))))
+zero_at y = fill ZERO.now (decimal y ∷ decimal 960 ∷ []) ++ zero_number y
 
 -- That line where some values are less than 0 and some greater
 abbrev pub zero_text : Span → List ℕ
@@ -51,7 +51,7 @@ stays span c y = (y_in span c.least == y) && (y_in span c.greatest == y)
 -- From a height up to a column, to its first value, and over it; nothing where the line stays
 abbrev pub step_text : Span → Column → ℕ → List ℕ
 step_text span c y =
-    cond (stays span c y) [] (codes "H" ++ (decimal c.x ++ (upright y (y_in span c.first) ++ stroke_text span c (y_in span c.first))))
+    cond (stays span c y) [] (fill AHEAD.now (decimal c.x ∷ []) ++ (upright y (y_in span c.first) ++ stroke_text span c (y_in span c.first)))
 
 -- The height behind the column
 abbrev pub step_end : Span → Column → ℕ → ℕ
@@ -67,12 +67,16 @@ abbrev pub steps_end : Span → List Column → ℕ → ℕ
 steps_end span [] y = y
 steps_end span (c ∷ columns) y = steps_end span columns (step_end span c y)
 
+-- A line at a height that is dashed, from a place to the end of the plot
+abbrev pub silent_line : ℕ → ℕ → List ℕ
+silent_line from y = dashes from SILENT_LINE.now (decimal from ∷ decimal y ∷ decimal 960 ∷ [])
+
 -- The line over columns, up to a place; from there on it is dashed
 abbrev pub line_text : Span → Column → List Column → ℕ → List ℕ
 line_text span first rest end =
-    codes "<path class=\"line\" d=\"M" ++ (decimal first.x ++ (codes " " ++ (decimal (y_in span first.first)
-    ++ (stroke_text span first (y_in span first.first) ++ (steps_text span rest (y_in span first.last) ++ (codes "H" ++ (decimal end
-    ++ (codes "\"/>\n" ++ silent_line end (steps_end span rest (y_in span first.last))))))))))
+    fill LINE.now (decimal first.x ∷ decimal (y_in span first.first) ∷ [])
+    ++ (stroke_text span first (y_in span first.first) ++ (steps_text span rest (y_in span first.last)
+    ++ (fill LINE_END.now (decimal end ∷ []) ++ silent_line end (steps_end span rest (y_in span first.last)))))
 
 -- ---- the values that are written at the line
 

@@ -1,19 +1,25 @@
 -- What is drawn of lanes.
-use Rattle.std.specs.Prelude.{◌+◌, ◌++◌, ℕ, Bool, List, [], ◌∷◌, length, nat_le}
+use Rattle.std.specs.Prelude.{◌+◌, ◌-◌, ◌/◌, ◌++◌, ℕ, Bool, List, [], ◌∷◌, decimal, length, nat_le}
+use Rattle.std.specs.List.{flat_map}
+use Rattle.psy_draw.specs.declared.drawing.TheConstants.{LANE}
 use Rattle.psy_draw.specs.declared.hover.TheConstants.{TELLING_COLUMNS}
 use Rattle.psy_draw.specs.declared.lane.Lane.{Lane}
-use Rattle.psy_draw.specs.Groups.{lane_end, lane_head}
+use Rattle.psy_draw.specs.declared.markup.TheConstants.{GROUP_END}
+use Rattle.psy_draw.specs.Homes.{on_processor}
 use Rattle.psy_draw.specs.Insides.{lane_inside}
 use Rattle.psy_draw.specs.Shapes.{class_of, columns_of, height_of, processor_of}
+use Rattle.psy_page.specs.Spelling.{escaped}
+use Rattle.psy_page.specs.Templates.{fill}
 
--- The group of a lane at a place, with this inside
-abbrev pub lane_text : ℕ → ℕ → Lane → List ℕ → List ℕ
-lane_text left top lane inside =
-    lane_head (class_of lane.shape) left top (height_of lane.shape) lane.name.now (processor_of lane.shape) ++ (inside ++ lane_end)
+-- The head of a lane at a place: its line at the bottom, and its name, with the processor, where there is one
+abbrev pub lane_head : ℕ → ℕ → Lane → List ℕ
+lane_head left top lane =
+    fill LANE.now (class_of lane.shape ∷ decimal left ∷ decimal top ∷ decimal (left - 12) ∷ decimal (height_of lane.shape) ∷ decimal 960
+    ∷ decimal (left - 12) ∷ decimal (height_of lane.shape / 2 + 4) ∷ flat_map escaped lane.name.now ∷ on_processor (processor_of lane.shape) ∷ [])
 
 -- A lane at a place, with what stands in it
 abbrev pub drawn_lane : (ℕ → ℕ) → Bool → ℕ → ℕ → Lane → List ℕ
-drawn_lane place tells left top lane = lane_text left top lane (lane_inside place tells lane)
+drawn_lane place tells left top lane = lane_head left top lane ++ (lane_inside place tells lane ++ GROUP_END.now)
 
 -- Lanes one below the other, from a height on, and nothing between them
 abbrev pub stacked : (ℕ → ℕ) → Bool → ℕ → ℕ → List Lane → List ℕ

@@ -7,9 +7,11 @@ use Rattle.psy_log.specs.declared.note.Note.{Note}
 use Rattle.psy_log.specs.declared.note.Note.TheVariants as note
 use Rattle.psy_draw.specs.declared.node.Node.{Node}
 use Rattle.psy_draw.specs.declared.node.Step.{Step}
-use Rattle.psy_draw.specs.declared.folded.TheConstants.{MOST_PHASES}
-use Rattle.psy_draw.specs.Graph.{node_name, opening}
+use Rattle.psy_draw.specs.declared.folded.TheConstants.{ARROW, ARROW_END, COSTS, MORE_PHASES, MOST_PHASES, PHASE, POINT, RED}
+use Rattle.psy_draw.specs.declared.graph.TheConstants.{CLUSTER_END, GRAPHS, GRAPHS_END}
+use Rattle.psy_draw.specs.Graph.{opening}
 use Rattle.psy_draw.specs.Homes.{Housed, home_at}
+use Rattle.psy_page.specs.Templates.{fill}
 
 -- ---- the graph of an agent
 
@@ -69,13 +71,16 @@ quoted b = cond (b == 34) (codes "\\\"") (cond (b == 92) (codes "\\\\") (cond (b
 
 -- What makes a box red: its worst cost passes its budget
 abbrev pub color : ℕ → ℕ → List ℕ
-color worst budget = cond (nat_le worst budget) [] (codes ", color=red")
+color worst budget = cond (nat_le worst budget) [] RED.now
+
+-- The costs in a box: the worst, and the budget
+abbrev pub costs_text : ℕ → ℕ → List ℕ
+costs_text worst budget = fill COSTS.now (decimal worst ∷ decimal budget ∷ color worst budget ∷ [])
 
 -- The box of a point: its number and its line in the program's text; its worst cost and its budget
 abbrev pub box_text : List ℕ → ℕ → List ℕ → ℕ → ℕ → List ℕ
 box_text agent point line worst budget =
-    codes "    " ++ node_name (Some agent) point ++ codes " [label=\"point " ++ decimal point ++ codes "\\n" ++ flat_map quoted line
-    ++ codes "\\nworst " ++ decimal worst ++ codes " of " ++ decimal budget ++ codes "\"" ++ color worst budget ++ codes "];\n"
+    fill POINT.now (agent ∷ decimal point ∷ decimal point ∷ []) ++ flat_map quoted line ++ costs_text worst budget
 
 -- The box of a point with these nodes; none where no action starts there
 abbrev pub box_of : List ℕ → ℕ → List ℕ → List Node → List ℕ
@@ -88,21 +93,17 @@ point_text agent lines nodes point = box_of agent point (get_or lines point []) 
 
 -- A date behind others
 abbrev pub more_phase : ℕ → List ℕ
-more_phase phase = codes ", " ++ decimal phase
+more_phase phase = fill PHASE.now (decimal phase ∷ [])
 
 -- Dates behind the first: seven of them
 abbrev pub more_phases : List ℕ → List ℕ
-more_phases phases = flat_map more_phase (take MOST_PHASES phases) ++ cond (nat_le (length phases) MOST_PHASES) [] (codes ", ..")
-
--- The ends of an arrow
-abbrev pub ends_text : List ℕ → ℕ → ℕ → List ℕ
-ends_text agent from to = codes "    " ++ node_name (Some agent) from ++ codes " -> " ++ node_name (Some agent) to
+more_phases phases = flat_map more_phase (take MOST_PHASES phases) ++ cond (nat_le (length phases) MOST_PHASES) [] MORE_PHASES.now
 
 -- The arrow from one point to another, with the dates of the cycle at which actions start that lead there; none where none does
 abbrev pub arrow_by : List ℕ → ℕ → ℕ → List ℕ → List ℕ
 arrow_by agent from to [] = []
 arrow_by agent from to (phase ∷ phases) =
-    ends_text agent from to ++ codes " [label=\"at " ++ decimal phase ++ more_phases phases ++ codes "\"];\n"
+    fill ARROW.now (agent ∷ decimal from ∷ agent ∷ decimal to ∷ decimal phase ∷ []) ++ more_phases phases ++ ARROW_END.now
 
 abbrev pub arrow_text : List ℕ → ℕ → List Step → ℕ → List ℕ
 arrow_text agent from steps to = arrow_by agent from to (flat_map (phase_to to) steps)
@@ -115,7 +116,7 @@ arrows_text agent nodes notes count from = flat_map (arrow_text agent from (step
 abbrev pub cluster_text : List ℕ → Option ℕ → List (List ℕ) → List Note → List ℕ
 cluster_text agent processor lines notes =
     opening agent processor ++ flat_map (point_text agent lines (nodes_of notes)) (range_with_len 0 (length lines))
-    ++ flat_map (arrows_text agent (nodes_of notes) notes (length lines)) (range_with_len 0 (length lines)) ++ codes "  }\n"
+    ++ flat_map (arrows_text agent (nodes_of notes) notes (length lines)) (range_with_len 0 (length lines)) ++ CLUSTER_END.now
 
 -- Of lists of lines the first, and those behind it
 abbrev pub first_lines : List (List (List ℕ)) → List (List ℕ)
@@ -135,4 +136,4 @@ folded_clusters homes lines (_ ∷ notes) = folded_clusters homes lines notes
 
 -- The whole text
 abbrev pub folded_of : List Housed → List (List (List ℕ)) → List Note → List ℕ
-folded_of homes lines notes = codes "digraph psyc {\n  rankdir=LR;\n  node [shape=box];\n" ++ folded_clusters homes lines notes ++ codes "}\n"
+folded_of homes lines notes = GRAPHS.now ++ folded_clusters homes lines notes ++ GRAPHS_END.now

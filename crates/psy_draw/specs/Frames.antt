@@ -1,10 +1,12 @@
 -- Where the parts of a picture stand, in pixels.
-use Rattle.std.specs.Prelude.{◌+◌, ◌*◌, ℕ, List, cond, max, nat_le}
+use Rattle.std.specs.Prelude.{◌+◌, ◌*◌, ◌≤◌, ℕ, List, cond, length, max, nat_le}
 use Rattle.std.specs.List.{fold}
 use Rattle.psy_draw.specs.declared.lane.Lane.{Lane}
 use Rattle.psy_draw.specs.declared.lane.Shape.{Shape}
 use Rattle.psy_draw.specs.declared.lane.Shape.TheVariants as shape
 use Rattle.psy_draw.specs.declared.layout.TheConstants.{LABEL_LETTER, NAME_LETTER}
+use Rattle.psy_draw.specs.declared.room.TheConstants.{MOST_ROWS}
+use Rattle.psy_draw.specs.declared.tables.Tables.{Tables}
 use Rattle.psy_draw.specs.Drawing.{heights}
 use Rattle.psy_draw.specs.Heads.{longest_name}
 use Rattle.psy_draw.specs.Places.{width_of}
@@ -46,3 +48,9 @@ picture_height lanes lines high = tables_top lanes lines + high + 12
 -- Its width, with tables that are so wide
 abbrev pub picture_width : List Lane → ℕ → ℕ
 picture_width lanes wide = max (left_of lanes + 1000) wide
+
+-- No table has more rows than there is room for.
+pub record HaveRoom (tables : Tables) : Type 0 where
+  pub agents : length tables.agents.rows.items ≤ MOST_ROWS
+  pub variables : length tables.variables.rows.items ≤ MOST_ROWS
+  pub streams : length tables.streams.rows.items ≤ MOST_ROWS

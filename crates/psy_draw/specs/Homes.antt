@@ -1,6 +1,12 @@
 -- Of which processors agents are, where it is told.
 use Rattle.std.specs.Prelude.{ℕ, List, [], ◌∷◌, bytes_eq, cond, Option, None, Some}
 use Rattle.psy_draw.specs.declared.home.Home.{Home}
+use Rattle.psy_draw.specs.declared.home.TheConstants.{ON}
+use Rattle.psy_page.specs.Spelling.{labelled}
+
+-- What stands behind the name of an agent: ` on ` and its processor, where one is told
+abbrev pub on_processor : Option ℕ → List ℕ
+on_processor processor = labelled ON.now processor
 
 -- An agent, and its processor
 pub record Housed : Type 0 where

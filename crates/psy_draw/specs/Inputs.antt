@@ -1,8 +1,10 @@
 -- The names of the variables without a value, in lines of text.
-use Rattle.std.specs.Prelude.{◌+◌, ◌*◌, ◌++◌, ◌||◌, ◌==◌, ℕ, Bool, List, [], ◌∷◌, codes, cond, decimal, length, min, nat_le}
+use Rattle.std.specs.Prelude.{◌+◌, ◌*◌, ◌++◌, ◌||◌, ◌==◌, ℕ, Bool, List, [], ◌∷◌, cond, decimal, length, min, nat_le}
 use Rattle.std.specs.List.{flat_map}
 use Rattle.psy_draw.specs.declared.line.Line.{Line}
-use Rattle.psy_draw.specs.Spelling.{escaped}
+use Rattle.psy_draw.specs.declared.inputs.TheConstants.{FIRST_NAME, FURTHER_NAME, LEAD, NEXT_NAME, TEXT_END}
+use Rattle.psy_page.specs.Spelling.{escaped}
+use Rattle.psy_page.specs.Templates.{fill}
 
 -- The last line: its number, counted from 1, and 0 where there is none yet; and its letters, as far as they are counted
 pub record Last : Type 0 where
@@ -32,15 +34,12 @@ behind_name last name =
     (cond (has_room last name) (record { number = last.number; letters = min (last.letters + letters_for name) 150 })
     (record { number = last.number + 1; letters = letters_for name }))
 
--- A line begins, each 16 pixels below the one before it
-abbrev pub line_head : ℕ → List ℕ
-line_head number = codes "<text x=\"" ++ (decimal 12 ++ (codes "\" y=\"" ++ (decimal (number * 16) ++ codes "\">")))
-
--- What is written for a name: in the first line, behind a comma in the last one, or in a further one
+-- What is written for a name: in the first line, behind a comma in the last one, or in a further one, each 16 pixels below the one before it
 abbrev pub name_text : Last → List ℕ → List ℕ
 name_text last name =
-    cond (last.number == 0) (line_head 1 ++ (codes "inputs, which a run doesn't tell: " ++ flat_map escaped name))
-    (cond (has_room last name) (codes ", " ++ flat_map escaped name) (codes ",</text>\n" ++ (line_head (last.number + 1) ++ flat_map escaped name)))
+    cond (last.number == 0) (fill FIRST_NAME.now (decimal 16 ∷ LEAD.now ∷ flat_map escaped name ∷ []))
+    (cond (has_room last name) (fill NEXT_NAME.now (flat_map escaped name ∷ []))
+    (fill FURTHER_NAME.now (decimal ((last.number + 1) * 16) ∷ flat_map escaped name ∷ [])))
 
 -- Names behind a line
 abbrev pub names_text : Last → List (List ℕ) → List ℕ
@@ -58,7 +57,7 @@ input_lines names = (behind_names no_line names).number
 
 -- The last line ends, where there is one.
 abbrev pub end_text : ℕ → List ℕ
-end_text number = cond (number == 0) [] (codes "</text>\n")
+end_text number = cond (number == 0) [] TEXT_END.now
 
 -- The lines of names
 abbrev pub input_text : List (List ℕ) → List ℕ

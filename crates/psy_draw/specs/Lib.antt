@@ -10,7 +10,6 @@ pub mod Folded
 pub mod Frames
 pub mod Gathering
 pub mod Graph
-pub mod Groups
 pub mod Heads
 pub mod Homes
 pub mod Inputs
@@ -22,6 +21,7 @@ pub mod Listing
 pub mod Pictures
 pub mod Places
 pub mod Planning
+pub mod Rows
 pub mod Sayings
 pub mod Scales
 pub mod Shapes
@@ -29,7 +29,6 @@ pub mod Showing
 pub mod Silences
 pub mod Sources
 pub mod Spans
-pub mod Spelling
 pub mod Stops
 pub mod Strokes
 pub mod Summaries

@@ -1,44 +1,52 @@
 -- The picture of a run.
-use Rattle.std.specs.Prelude.{◌≡◌, ◌⊎◌, ◌<◌, ◌≤◌, ◌++◌, ℕ, List, [], None, codes, cond, decimal, length, min, nat_le}
+use Rattle.std.specs.Prelude.{◌≡◌, ◌⊎◌, ◌<◌, ◌≤◌, ◌++◌, ℕ, List, [], ◌∷◌, None, cond, decimal, length, min, nat_le}
 use Rattle.std.specs.List.{count_by, flat_map}
 use Rattle.psy_base.specs.declared.limits.TheConstants.{UNTIL}
-use Rattle.psy_draw.specs.declared.file.TheConstants.{INSIDE_BYTES, TOO_LARGE}
+use Rattle.psy_draw.specs.declared.file.TheConstants.{INSIDE_BYTES, SVG, SVG_END, TOO_LARGE}
+use Rattle.psy_draw.specs.declared.legend.TheConstants.{INPUTS, LEGEND}
 use Rattle.psy_draw.specs.declared.lane.Lane.{Lane}
-use Rattle.psy_draw.specs.declared.row.Row.{Row}
 use Rattle.psy_draw.specs.declared.window.Window.{Window}
-use Rattle.psy_draw.specs.Axes.{axis_text, grid_text}
+use Rattle.psy_draw.specs.Axes.{axis_text, grid_text, ticks_of}
 use Rattle.psy_draw.specs.Dates.{last_date}
 use Rattle.psy_draw.specs.Drawing.{stacked, tells_parts}
 use Rattle.psy_draw.specs.Frames.{bottom_of, inputs_top, left_of, legend_top, picture_height, picture_width, tables_top}
-use Rattle.psy_draw.specs.Heads.{legend_text}
 use Rattle.psy_draw.specs.Inputs.{input_lines, input_text}
 use Rattle.psy_draw.specs.Knowledge.{Knowledge}
 use Rattle.psy_draw.specs.Lanes.{may_have_lane}
 use Rattle.psy_draw.specs.Listing.{first_unasked, first_unlisted}
 use Rattle.psy_draw.specs.Places.{grain_of, window_end, x_of}
 use Rattle.psy_draw.specs.Planning.{Are, HasManyLanes, input_names, lanes_of}
+use Rattle.psy_draw.specs.Rows.{Entry}
 use Rattle.psy_draw.specs.Showing.{agent_rows, stream_rows, variable_rows}
-use Rattle.psy_draw.specs.Spelling.{svg_of}
 use Rattle.psy_draw.specs.Summaries.{HasManyRows, tables_height, tables_text, tables_width}
 use Rattle.psy_draw.specs.Titles.{head_text}
 use Rattle.psy_log.specs.declared.note.Note.{Note}
+use Rattle.psy_page.specs.Templates.{fill}
 
--- The axis below the lanes, where they are high
-abbrev pub lower_text : ℕ → ℕ → ℕ → ℕ → ℕ → List ℕ
-lower_text from to grain left bottom = cond (nat_le 536 bottom) (axis_text from to grain left bottom) []
+-- The dates of a grid: its lines behind the lanes, the axis above them, and, where they are high, the one below
+abbrev pub ticks_text : (ℕ → ℕ) → List ℕ → ℕ → ℕ → List ℕ
+ticks_text place ticks left bottom =
+    grid_text place ticks left bottom ++ (axis_text place ticks left 26 ++ cond (nat_le 536 bottom) (axis_text place ticks left bottom) [])
 
--- The dates: the grid behind the lanes, the axis above them, and the one below
+-- Those of a picture
 abbrev pub dates_text : ℕ → ℕ → ℕ → ℕ → ℕ → List ℕ
-dates_text from to grain left bottom =
-    grid_text from to grain left 56 bottom ++ (axis_text from to grain left 26 ++ lower_text from to grain left bottom)
+dates_text from to grain left bottom = ticks_text (x_of from to grain) (ticks_of from to) left bottom
+
+-- The file of one SVG element with this inside
+abbrev pub svg_of : List ℕ → List ℕ
+svg_of inside = SVG.now ++ (inside ++ SVG_END.now)
 
 -- The names of the variables without a value, at a height
 abbrev pub inputs_group : ℕ → List ℕ → List ℕ
-inputs_group top text = codes "<g class=\"notes\" transform=\"translate(0 " ++ (decimal top ++ (codes ")\">\n" ++ (text ++ codes "</g>\n")))
+inputs_group top text = fill INPUTS.now (decimal top ∷ text ∷ [])
+
+-- How the picture is read, at a height
+abbrev pub legend_text : ℕ → List ℕ
+legend_text top = fill LEGEND.now (decimal top ∷ [])
 
 -- The parts of a picture one behind the other: its head, its dates, its lanes, the names of variables without a value, how it is read, and the tables of
 -- the summary
-abbrev pub parts_text : List ℕ → ℕ → ℕ → ℕ → List Lane → ℕ → List ℕ → List Row → List Row → List Row → List ℕ
+abbrev pub parts_text : List ℕ → ℕ → ℕ → ℕ → List Lane → ℕ → List ℕ → List Entry → List Entry → List Entry → List ℕ
 parts_text name from to grain lanes lines inputs agents variables streams =
     head_text (picture_width lanes (tables_width agents variables streams)) (picture_height lanes lines (tables_height agents variables streams)) name from to
     ++ (dates_text from to grain (left_of lanes) (bottom_of lanes)

@@ -1,5 +1,5 @@
 -- What a picture is drawn of, and the lanes that it has.
-use Rattle.std.specs.Prelude.{◌≡◌, ◌++◌, ℕ, List, map, string_bytes}
+use Rattle.std.specs.Prelude.{◌++◌, ℕ, List, map, string_bytes}
 use Rattle.std.specs.List.{flat_map}
 use Rattle.psy_draw.specs.declared.source.Source.{Source}
 use Rattle.psy_draw.specs.declared.stopped.Stopped.{Stopped}
@@ -8,7 +8,7 @@ use Rattle.psy_draw.specs.Gathering.{AreColumns, AreStops, asks_stream, asks_var
 use Rattle.psy_draw.specs.Knowledge.{Knowledge, knowledge_of}
 use Rattle.psy_draw.specs.Lanes.{held_values, message_values}
 use Rattle.psy_draw.specs.Listing.{Lists}
-use Rattle.psy_draw.specs.Pictures.{IsCrowded, IsFile, IsInside}
+use Rattle.psy_draw.specs.Pictures.{IsFile}
 use Rattle.psy_draw.specs.Planning.{Shown, input_name, input_names, lanes_of}
 use Rattle.psy_draw.specs.Planning.{message_lane, stop_lanes, stream_lanes, value_lane, variable_lanes}
 use Rattle.psy_draw.specs.Sayings.{HasSummary}
@@ -90,15 +90,6 @@ pub record IsOf (source : Source) (stopped : Stopped) (notes : List Note) : Type
   pub draws : Draws source notes
   pub stops : AreStops (place_in source) (flat_map (stops_of source) notes) stopped.lanes.items stopped.full
   pub summary : HasSummary notes source.summary.now
-
--- A picture of it would have too many lanes, names or rows.
-abbrev pub IsCrowdedBy : Source → List Note → Type 0
-IsCrowdedBy source notes = IsCrowded source.scale.now.from source.scale.now.to (known_in source) (names_in source) notes
-
--- A text is the inside of the file of the picture.
-abbrev pub IsInsideBy : List ℕ → Source → List Note → List ℕ → Type 0
-IsInsideBy name source notes text =
-    IsInside name source.scale.now.from source.scale.now.to source.scale.now.grain (known_in source) (names_in source) notes text
 
 -- A file is that of the picture, or says that it would be too large.
 abbrev pub IsFileBy : List ℕ → Source → List Note → List ℕ → Type 0

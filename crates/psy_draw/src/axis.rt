@@ -1,23 +1,35 @@
 //! The axis of dates, and the grid.
 
-ghost use Rattle.std.specs.Prelude.{◌≡◌, ◌*◌, ◌<◌, ◌≤◌, ◌++◌, OnOk};
-ghost use Rattle.std.specs.List.{flat_map, range_with_len};
-ghost use Rattle.psy_draw.specs.Axes.{axis_date, axis_text, first_tick, grid_line, grid_text, step_of, tick_by};
+ghost use Rattle.std.specs.Prelude.{◌≡◌, ◌*◌, ◌<◌, ◌≤◌, ◌++◌, IfOk, OnOk};
+ghost use Rattle.psy_draw.specs.Axes.{axis_text, first_tick, grid_text, step_of, tick_at, ticks_of};
+ghost use Rattle.psy_draw.specs.Scales.{place_by};
 ghost use Rattle.psy_base.specs.declared.limits.TheConstants.{UNTIL};
 
+use crate::frame::LANES_TOP;
 use crate::layout::{Corner, MARGIN};
-use crate::page::Page;
-use crate::piece::Piece;
+use crate::markup::{GROUP_END, PATH, PATH_END};
 use crate::scale::Scale;
 use psy_base::Memory;
+use psy_page::Page;
+use psy_page::Piece::{Number, Raw};
+use std::alloc::Global;
 
 /// The height of an axis.
 pub const AXIS_HEIGHT: u32 = 30;
 
-const THOUSAND: u32 = 1_000;
+/// A line of the grid, from one height to another.
+pub const GRID_LINE: &[u8] = b"M$ $V$";
+
+/// An axis begins at a place, with the word `date`.
+pub const AXIS: &[u8] = b"<g class=\"axis\" transform=\"translate($ $)\">
+<text class=\"word\" x=\"-$\" y=\"19\">date</text>
+";
+
+/// A date at a place.
+pub const DATE: &[u8] = b"<text x=\"$\" y=\"19\">$</text>\n";
 
 // The longest step from tick to tick.
-const LONGEST_STEP: u32 = 100 * THOUSAND;
+const LONGEST_STEP: u32 = 100_000;
 
 // The shorter steps.
 const STEPS: [u32; 15] = [
@@ -30,12 +42,12 @@ const STEPS: [u32; 15] = [
     100,
     200,
     500,
-    THOUSAND,
-    2 * THOUSAND,
-    5 * THOUSAND,
-    10 * THOUSAND,
-    20 * THOUSAND,
-    50 * THOUSAND,
+    1_000,
+    2_000,
+    5_000,
+    10 * 1_000,
+    20_000,
+    50_000,
 ];
 
 // The most steps of the dates that are shown, so that ticks are at least 60 pixels from one another.
@@ -56,15 +68,27 @@ fn step_of(dates: u32) -> u32
     LONGEST_STEP
 }
 
-// The tick of this number, where it isn't past the last date.
-fn tick_by(scale: &Scale, step: u32, number: u32) -> Option<u32>
-    requires some { 0 < step }
-    requires short { step ≤ 500000 }
-    requires number { number ≤ 16 }
-    ensures { result ≡ tick_by scale.now.from scale.now.to step number }
+/// The dates at which the grid has lines: multiples of a step.
+pub fn ticks_of(alloc: Global, scale: &Scale) -> Result<Vec<u32>, Memory>
+    ensures { IfOk result (λ ticks. ticks.items ≡ ticks_of scale.now.from scale.now.to) }
 {
-    let date = first_tick(scale.from, step) + number * step;
-    if date <= scale.to { Some(date) } else { None }
+    let step = step_of(scale.to - scale.from);
+    let first = first_tick(scale.from, step);
+    let mut ticks = Vec::new(alloc);
+    'ticks: for number in 0..MOST_STEPS + 1 {
+        add_tick(&mut ticks, first + number * step, scale.to)?;
+    }
+    Ok(ticks)
+}
+
+// Adds a date, where it isn't past the last one.
+fn add_tick(ticks: &mut Vec<u32>, date: u32, last: u32) -> Result<(), Memory>
+    ensures { OnOk result (ticks.new.items ≡ ticks.old.items ++ tick_at last date) }
+{
+    if date <= last {
+        ticks.push(date)?;
+    }
+    Ok(())
 }
 
 // The first multiple of a step that isn't before a date.
@@ -78,115 +102,38 @@ fn first_tick(from: u32, step: u32) -> u32
     (from + step - 1) / step * step
 }
 
-/// Draws the lines of the grid, from one height to another.
+/// Draws the lines of the grid at some dates, from one height to another.
 pub fn draw_grid(
     page: &mut Page,
     scale: &Scale,
+    ticks: &[u32],
     left: u32,
-    top: u32,
     bottom: u32,
 ) -> Result<(), Memory>
     requires { left ≤ 2000 }
-    ensures { OnOk result (page.new ≡ page.old ++ grid_text scale.now.from scale.now.to scale.now.grain left top bottom) }
+    ensures { OnOk result (page.new ≡ page.old ++ grid_text (place_by scale.now) ticks.now left bottom) }
 {
-    page.put(&[Piece::Raw(b"<path class=\"grid\" d=\"")])?;
-    let step = step_of(scale.to - scale.from);
-    put_lines(page, scale, step, left, top, bottom)?;
-    page.put(&[Piece::Raw(b"\"/>\n")])?;
-    Ok(())
+    page.fill(PATH, &[Raw(b"grid")])?;
+    for date in ticks {
+        let x = left + scale.x(u64::from(*date));
+        page.fill(GRID_LINE, &[Number(x), Number(LANES_TOP), Number(bottom)])?;
+    }
+    page.add(PATH_END)
 }
 
-fn put_lines(
+/// Writes some dates, and the word `date`.
+pub fn draw_axis(
     page: &mut Page,
     scale: &Scale,
-    step: u32,
-    left: u32,
-    top: u32,
-    bottom: u32,
+    ticks: &[u32],
+    corner: Corner,
 ) -> Result<(), Memory>
-    requires left { left ≤ 2000 }
-    requires some { 0 < step }
-    requires short { step ≤ 500000 }
-    ensures { OnOk result (page.new ≡ page.old ++ flat_map (grid_line scale.now.from scale.now.to scale.now.grain step left top bottom) (range_with_len 0 17)) }
+    ensures { OnOk result (page.new ≡ page.old ++ axis_text (place_by scale.now) ticks.now corner.left corner.top) }
 {
-    for number in 0..MOST_STEPS + 1 {
-        put_line(page, scale, step, number, left, top, bottom)?;
+    let Corner { left, top, .. } = corner;
+    page.fill(AXIS, &[Number(left), Number(top), Number(left - MARGIN)])?;
+    for date in ticks {
+        page.fill(DATE, &[Number(scale.x(u64::from(*date))), Number(*date)])?;
     }
-    Ok(())
-}
-
-fn put_line(
-    page: &mut Page,
-    scale: &Scale,
-    step: u32,
-    number: u32,
-    left: u32,
-    top: u32,
-    bottom: u32,
-) -> Result<(), Memory>
-    requires some { 0 < step }
-    requires short { step ≤ 500000 }
-    requires left { left ≤ 2000 }
-    requires number { number ≤ 16 }
-    ensures { OnOk result (page.new ≡ page.old ++ grid_line scale.now.from scale.now.to scale.now.grain step left top bottom number) }
-{
-    match tick_by(scale, step, number) {
-        Some(date) => page.put(&[
-            Piece::Raw(b"M"),
-            Piece::Number(left + scale.x(u64::from(date))),
-            Piece::Raw(b" "),
-            Piece::Number(top),
-            Piece::Raw(b"V"),
-            Piece::Number(bottom),
-        ]),
-        None => Ok(()),
-    }
-}
-
-/// Writes the dates of the grid, and the word `date`.
-pub fn draw_axis(page: &mut Page, scale: &Scale, corner: Corner) -> Result<(), Memory>
-    ensures { OnOk result (page.new ≡ page.old ++ axis_text scale.now.from scale.now.to scale.now.grain corner.left corner.top) }
-{
-    page.put(&[
-        Piece::Raw(b"<g class=\"axis\" transform=\"translate("),
-        Piece::Number(corner.left),
-        Piece::Raw(b" "),
-        Piece::Number(corner.top),
-        Piece::Raw(b")\">\n<text class=\"word\" x=\"-"),
-        Piece::Number(corner.left - MARGIN),
-        Piece::Raw(b"\" y=\"19\">date</text>\n"),
-    ])?;
-    let step = step_of(scale.to - scale.from);
-    put_dates(page, scale, step)?;
-    page.put(&[Piece::Raw(b"</g>\n")])?;
-    Ok(())
-}
-
-fn put_dates(page: &mut Page, scale: &Scale, step: u32) -> Result<(), Memory>
-    requires some { 0 < step }
-    requires short { step ≤ 500000 }
-    ensures { OnOk result (page.new ≡ page.old ++ flat_map (axis_date scale.now.from scale.now.to scale.now.grain step) (range_with_len 0 17)) }
-{
-    for number in 0..MOST_STEPS + 1 {
-        put_date(page, scale, step, number)?;
-    }
-    Ok(())
-}
-
-fn put_date(page: &mut Page, scale: &Scale, step: u32, number: u32) -> Result<(), Memory>
-    requires some { 0 < step }
-    requires short { step ≤ 500000 }
-    requires number { number ≤ 16 }
-    ensures { OnOk result (page.new ≡ page.old ++ axis_date scale.now.from scale.now.to scale.now.grain step number) }
-{
-    match tick_by(scale, step, number) {
-        Some(date) => page.put(&[
-            Piece::Raw(b"<text x=\""),
-            Piece::Number(scale.x(u64::from(date))),
-            Piece::Raw(b"\" y=\"19\">"),
-            Piece::Number(date),
-            Piece::Raw(b"</text>\n"),
-        ]),
-        None => Ok(()),
-    }
+    page.add(GROUP_END)
 }

@@ -14,12 +14,7 @@ pub fn is_asked(names: &[String], name: &[u8]) -> bool
 fn is_among(names: &[String], name: &[u8]) -> bool
     ensures { result ≡ list_any (λ asked. bytes_eq name.now (string_bytes asked)) names.now }
 {
-    for asked in names {
-        if is(name, asked) {
-            return true;
-        }
-    }
-    false
+    names.iter().any(|asked| is(name, asked))
 }
 
 fn is(name: &[u8], asked: &String) -> bool

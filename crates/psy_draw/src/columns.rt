@@ -1,43 +1,39 @@
 //! The columns of a lane.
 
-ghost use Rattle.std.specs.Prelude.{◌≡◌, ◌-◌, ◌++◌, [], ◌∷◌, Bool, ℕ, List, OnOk, length, slice_get};
+ghost use Rattle.std.specs.Prelude.{◌≡◌, ◌-◌, [], ◌∷◌, Bool, ℕ, List, OnOk, length, slice_get};
 ghost use Rattle.std.specs.Option.{option_copied};
-ghost use Rattle.psy_draw.specs.Columns.{AddsValues, Dated, Judges, StandsFor, dated, is_there, is_there_still};
+ghost use Rattle.psy_draw.specs.Columns.{AddsValues, Dated, Judges, StandsFor, dated, is_there, is_there_still, rule};
 ghost use Rattle.psy_draw.specs.Scales.{place_by};
 
 use crate::column::Column;
 use crate::scale::Scale;
+use crate::values::Told;
 use psy_base::Memory;
 
-/// Adds a value of a variable to the columns of its lane, whose places rise: it goes into the last column where its place isn't
-/// behind that, and where it is the value that stands there already.
-pub fn add_value(
+/// Adds a value to the columns of a lane, whose places rise: it goes into the last column where its place isn't behind that, and in the lane of a variable
+/// also where it is the value that stands there already.
+pub fn add_told(
     columns: &mut Vec<Column>,
+    of_variable: bool,
     scale: &Scale,
-    date: u64,
-    value: i32,
+    told: Told,
 ) -> Result<(), Memory>
-    ensures { OnOk result (AddsValues (place_by scale.now) (is_there_still (place_by scale.now)) (dated date value ∷ [])
+    ensures { OnOk result (AddsValues (place_by scale.now) (rule of_variable (place_by scale.now)) (dated told.date told.value ∷ [])
         columns.old.items columns.new.items) }
 {
-    let one = Column::of(scale, date, value);
-    let joins = joins_value(columns.last(), &one);
+    let one = Column::of(scale, told.date, told.value);
+    let joins = joins(columns.last(), of_variable, &one);
     add(columns, joins, one)
 }
 
-/// Adds a message to the columns of a stream's lane: it goes into the last column where its place isn't behind that.
-pub fn add_message(
-    columns: &mut Vec<Column>,
-    scale: &Scale,
-    date: u64,
-    value: i32,
-) -> Result<(), Memory>
-    ensures { OnOk result (AddsValues (place_by scale.now) (is_there (place_by scale.now)) (dated date value ∷ [])
-        columns.old.items columns.new.items) }
+fn joins(last: Option<&Column>, of_variable: bool, one: &Column) -> bool
+    ensures { (place : ℕ → ℕ) → one.now.x ≡ place one.now.date → Judges place (rule of_variable place) result (option_copied last.entry) one.now }
 {
-    let one = Column::of(scale, date, value);
-    let joins = joins_place(columns.last(), &one);
-    add(columns, joins, one)
+    if of_variable {
+        joins_value(last, one)
+    } else {
+        joins_place(last, one)
+    }
 }
 
 fn joins_value(last: Option<&Column>, one: &Column) -> bool

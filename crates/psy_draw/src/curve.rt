@@ -4,19 +4,20 @@ ghost use Rattle.std.specs.Prelude.{◌≡◌, ◌≤◌, ◌+◌, ◌++◌, Non
 ghost use Rattle.std.specs.Fmt.{signed_decimal};
 ghost use Rattle.psy_draw.specs.Curves.{bounds_text, curve_inside, curve_labels, first_other, free_behind, held_to, is_new, label_on};
 ghost use Rattle.psy_draw.specs.Curves.{label_side, line_text, stays, step_end, step_text, steps_end, steps_text, stroke_text, tick_text};
-ghost use Rattle.psy_draw.specs.Curves.{turn_free, turn_text, turns_at, zero_at, zero_number, zero_text};
+ghost use Rattle.psy_draw.specs.Curves.{turn_free, turn_text, turns_at, zero_at, zero_text};
 ghost use Rattle.psy_draw.specs.Labels.{label_width};
 ghost use Rattle.psy_draw.specs.Spans.{letters_of, y_in};
-ghost use Rattle.psy_draw.specs.Strokes.{silent_line, upright};
+ghost use Rattle.psy_draw.specs.Strokes.{upright};
 
 use crate::boxes::voiced_end;
 use crate::column::Column;
 use crate::labels::{self, Extent, Side};
-use crate::page::Page;
-use crate::piece::Piece;
+use crate::markup::put_dashes;
 use crate::scale::PLOT_WIDTH;
 use crate::span::Span;
 use psy_base::Memory;
+use psy_page::Page;
+use psy_page::Piece::{Number, Value};
 
 /// The height of a lane.
 pub const CURVE_HEIGHT: u32 = 60;
@@ -31,6 +32,29 @@ const DEPTH: u32 = 32;
 
 // Between the place of 0 and those of the least and the greatest value there is room for its number.
 const ZERO_ROOM: u32 = 10;
+
+/// A tick at a height, and a value at its left.
+pub const TICK: &[u8] = b"<path class=\"tick\" d=\"M-4 $H0\"/>
+<text class=\"bound\" x=\"-6\" y=\"$\">$</text>
+";
+
+/// A line over the whole plot at the height of 0.
+pub const ZERO: &[u8] = b"<path class=\"zero\" d=\"M0 $H$\"/>\n";
+
+/// The line of the values begins at a place.
+pub const LINE: &[u8] = b"<path class=\"line\" d=\"M$ $";
+
+/// The line goes ahead to a place.
+pub const AHEAD: &[u8] = b"H$";
+
+/// The line goes up or down to a height.
+pub const UPRIGHT: &[u8] = b"V$";
+
+/// The line ends at a place.
+pub const LINE_END: &[u8] = b"H$\"/>\n";
+
+/// A line that is dashed, from a place at a height to another place.
+pub const SILENT_LINE: &[u8] = b"<path class=\"line silent\" d=\"M$ $H$\"/>\n";
 
 /// The letters of the least or the greatest value of some columns, whichever has more; 0 where there is but one value.
 pub fn bound_letters(columns: &[Column]) -> usize
@@ -65,8 +89,7 @@ fn put_bounds(page: &mut Page, span: Span) -> Result<(), Memory>
         return Ok(());
     }
     put_tick(page, TOP, span.greatest)?;
-    put_tick(page, TOP + DEPTH, span.least)?;
-    Ok(())
+    put_tick(page, TOP + DEPTH, span.least)
 }
 
 // Writes a value at the left of the line, behind it a tick.
@@ -74,15 +97,7 @@ fn put_tick(page: &mut Page, y: u32, value: i32) -> Result<(), Memory>
     requires { y ≤ 64 }
     ensures { OnOk result (page.new ≡ page.old ++ tick_text y value) }
 {
-    page.put(&[
-        Piece::Raw(b"<path class=\"tick\" d=\"M-4 "),
-        Piece::Number(y),
-        Piece::Raw(b"H0\"/>\n<text class=\"bound\" x=\"-6\" y=\""),
-        Piece::Number(y + 3),
-        Piece::Raw(b"\">"),
-        Piece::Value(value),
-        Piece::Raw(b"</text>\n"),
-    ])
+    page.fill(TICK, &[Number(y), Number(y + 3), Value(value)])
 }
 
 // Draws a line at 0 where some values are less and some greater, with its number where there is room.
@@ -95,27 +110,12 @@ fn put_zero(page: &mut Page, span: Span) -> Result<(), Memory>
     put_zero_at(page, y_of(span, 0))
 }
 
-// Draws that line at a height.
+// Draws that line at a height, and its number, where there is room.
 fn put_zero_at(page: &mut Page, y: u32) -> Result<(), Memory>
     requires { y ≤ 48 }
     ensures { OnOk result (page.new ≡ page.old ++ zero_at y) }
 {
-    page.put(&[
-        Piece::Raw(b"<path class=\"zero\" d=\"M0 "),
-        Piece::Number(y),
-        Piece::Raw(b"H"),
-        Piece::Number(PLOT_WIDTH),
-        Piece::Raw(b"\"/>\n"),
-    ])?;
-    put_zero_number(page, y)?;
-    Ok(())
-}
-
-// Writes its number, where there is room.
-fn put_zero_number(page: &mut Page, y: u32) -> Result<(), Memory>
-    requires { y ≤ 48 }
-    ensures { OnOk result (page.new ≡ page.old ++ zero_number y) }
-{
+    page.fill(ZERO, &[Number(y), Number(PLOT_WIDTH)])?;
     if TOP + ZERO_ROOM <= y && y + ZERO_ROOM <= TOP + DEPTH {
         put_tick(page, y, 0)
     } else {
@@ -142,34 +142,13 @@ fn put_line(
     ensures { OnOk result (page.new ≡ page.old ++ line_text span first.now rest.now end) }
 {
     let y = y_of(span, first.first);
-    page.put(&[
-        Piece::Raw(b"<path class=\"line\" d=\"M"),
-        Piece::Number(first.x),
-        Piece::Raw(b" "),
-        Piece::Number(y),
-    ])?;
+    page.fill(LINE, &[Number(first.x), Number(y)])?;
     let y = put_stroke(page, span, first, y)?;
     let y = put_strokes(page, span, rest, y)?;
-    page.put(&[Piece::Raw(b"H"), Piece::Number(end), Piece::Raw(b"\"/>\n")])?;
-    put_silent(page, end, y)?;
+    page.fill(LINE_END, &[Number(end)])?;
+    let holes = [Number(end), Number(y), Number(PLOT_WIDTH)];
+    put_dashes(page, end, SILENT_LINE, &holes)?;
     Ok(())
-}
-
-fn put_silent(page: &mut Page, from: u32, y: u32) -> Result<(), Memory>
-    ensures { OnOk result (page.new ≡ page.old ++ silent_line from y) }
-{
-    if PLOT_WIDTH <= from {
-        return Ok(());
-    }
-    page.put(&[
-        Piece::Raw(b"<path class=\"line silent\" d=\"M"),
-        Piece::Number(from),
-        Piece::Raw(b" "),
-        Piece::Number(y),
-        Piece::Raw(b"H"),
-        Piece::Number(PLOT_WIDTH),
-        Piece::Raw(b"\"/>\n"),
-    ])
 }
 
 // Draws the line over columns from a height on; to the height where it is then.
@@ -192,7 +171,7 @@ fn put_step(page: &mut Page, span: Span, column: &Column, y: u32) -> Result<u32,
     if stays(span, column, y) {
         return Ok(y);
     }
-    page.put(&[Piece::Raw(b"H"), Piece::Number(column.x)])?;
+    page.fill(AHEAD, &[Number(column.x)])?;
     let y = put_upright(page, y, y_of(span, column.first))?;
     let y = put_stroke(page, span, column, y)?;
     Ok(y)
@@ -220,7 +199,7 @@ fn put_upright(page: &mut Page, from: u32, to: u32) -> Result<u32, Memory>
     ensures { IfOk result (λ y. (y ≡ to) × (page.new ≡ page.old ++ upright from to)) }
 {
     if from != to {
-        page.put(&[Piece::Raw(b"V"), Piece::Number(to)])?;
+        page.fill(UPRIGHT, &[Number(to)])?;
     }
     Ok(to)
 }

@@ -1,27 +1,33 @@
 //! Draws a lane.
 
-ghost use Rattle.std.specs.Prelude.{◌≡◌, ◌≤◌, ◌++◌, IfOk, OnOk};
-ghost use Rattle.psy_draw.specs.Drawing.{drawn_lane, lane_text};
-ghost use Rattle.psy_draw.specs.Insides.{lane_inside, shape_inside, told_inside};
+ghost use Rattle.std.specs.Prelude.{◌≡◌, ◌≤◌, ◌++◌, OnOk};
+ghost use Rattle.psy_draw.specs.Drawing.{drawn_lane, lane_head};
+ghost use Rattle.psy_draw.specs.Insides.{lane_inside, shape_inside};
 ghost use Rattle.psy_draw.specs.Places.{silent_place};
 ghost use Rattle.psy_draw.specs.Scales.{place_by};
 
-use crate::boxes::{BOXES_HEIGHT, draw_boxes};
-use crate::curve::{CURVE_HEIGHT, draw_curve};
-use crate::hover::{tell_messages, tell_values};
+use crate::boxes::draw_boxes;
+use crate::curve::draw_curve;
+use crate::home::ON;
+use crate::hover::tell;
 use crate::lane::{Lane, Shape};
-use crate::layout::{Corner, close_lane, open_lane};
-use crate::messages::{MESSAGES_HEIGHT, draw_messages};
-use crate::page::Page;
-use crate::piece::Piece;
+use crate::layout::{Corner, MARGIN};
+use crate::markup::GROUP_END;
+use crate::messages::draw_messages;
 use crate::scale::{PLOT_WIDTH, Scale};
 use crate::stops::draw_stop;
 use psy_base::Memory;
-use std::alloc::Global;
+use psy_page::Page;
+use psy_page::Piece::{Labelled, Number, Raw, Text};
+
+/// The group of a lane begins: its line at the bottom, and its name, with the processor, where there is one.
+pub const LANE: &[u8] = b"<g class=\"$\" transform=\"translate($ $)\">
+<path class=\"rule\" d=\"M-$ $H$\"/>
+<text class=\"name\" x=\"-$\" y=\"$\">$$</text>
+";
 
 /// Draws a lane at a place; its parts tell what they are, where that is asked for.
 pub fn draw_lane(
-    alloc: Global,
     page: &mut Page,
     scale: &Scale,
     corner: Corner,
@@ -30,38 +36,40 @@ pub fn draw_lane(
 ) -> Result<(), Memory>
     ensures { OnOk result (page.new ≡ page.old ++ drawn_lane (place_by scale.now) tells corner.left corner.top lane.now) }
 {
-    let inside = inside_of(alloc, scale, lane, tells)?;
-    put_lane(page, corner, lane, inside.bytes())?;
-    Ok(())
+    open_lane(page, corner, lane)?;
+    put_inside(page, scale, lane, tells)?;
+    page.add(GROUP_END)
 }
 
-// What stands in a lane.
-fn inside_of(alloc: Global, scale: &Scale, lane: &Lane, tells: bool) -> Result<Page, Memory>
-    ensures { IfOk result (λ page. page ≡ lane_inside (place_by scale.now) tells lane.now) }
+// Begins a lane.
+fn open_lane(page: &mut Page, corner: Corner, lane: &Lane) -> Result<(), Memory>
+    ensures { OnOk result (page.new ≡ page.old ++ lane_head corner.left corner.top lane.now) }
 {
-    let mut inside = Page::new(alloc);
-    draw_shape(&mut inside, &lane.shape, silent_place(scale, lane))?;
-    if tells {
-        tell(&mut inside, &lane.shape)?;
-    }
-    Ok(inside)
+    let edge = corner.left - MARGIN;
+    let height = lane.height();
+    page.fill(
+        LANE,
+        &[
+            Raw(lane.class()),
+            Number(corner.left),
+            Number(corner.top),
+            Number(edge),
+            Number(height),
+            Number(PLOT_WIDTH),
+            Number(edge),
+            Number(height / 2 + 4),
+            Text(lane.name),
+            Labelled(ON, lane.processor()),
+        ],
+    )
 }
 
-// Adds a lane with this inside.
-fn put_lane(page: &mut Page, corner: Corner, lane: &Lane, inside: &[u8]) -> Result<(), Memory>
-    ensures { OnOk result (page.new ≡ page.old ++ lane_text corner.left corner.top lane.now inside.now) }
+// Draws what stands in a lane.
+fn put_inside(page: &mut Page, scale: &Scale, lane: &Lane, tells: bool) -> Result<(), Memory>
+    ensures { OnOk result (page.new ≡ page.old ++ lane_inside (place_by scale.now) tells lane.now) }
 {
-    open_lane(
-        page,
-        lane.class(),
-        corner,
-        lane.height(),
-        lane.name,
-        lane.processor(),
-    )?;
-    page.put(&[Piece::Raw(inside)])?;
-    close_lane(page)?;
-    Ok(())
+    draw_shape(page, &lane.shape, silent_place(scale, lane))?;
+    if tells { tell(page, lane) } else { Ok(()) }
 }
 
 // The place from which on a lane is silent, or the plot's right end.
@@ -84,16 +92,5 @@ fn draw_shape(page: &mut Page, shape: &Shape, silent: u32) -> Result<(), Memory>
         Shape::Curve(columns) => draw_curve(page, columns.as_slice(), silent),
         Shape::Boxes(columns) => draw_boxes(page, columns.as_slice(), silent),
         Shape::Marks(columns) => draw_messages(page, columns.as_slice()),
-    }
-}
-
-fn tell(page: &mut Page, shape: &Shape) -> Result<(), Memory>
-    ensures { OnOk result (page.new ≡ page.old ++ told_inside shape.now) }
-{
-    match shape {
-        Shape::Stop(_) => Ok(()),
-        Shape::Curve(columns) => tell_values(page, CURVE_HEIGHT, columns.as_slice()),
-        Shape::Boxes(columns) => tell_values(page, BOXES_HEIGHT, columns.as_slice()),
-        Shape::Marks(columns) => tell_messages(page, MESSAGES_HEIGHT, columns.as_slice()),
     }
 }

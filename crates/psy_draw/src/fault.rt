@@ -2,7 +2,6 @@
 ghost use Rattle.std.specs.Prelude.{◌≡◌};
 
 use psy_base::Memory;
-use std::alloc::{AllocError, AllocFailed};
 use thiserror::Error;
 
 /// Why no picture is drawn.
@@ -28,26 +27,6 @@ impl From<Memory> for DrawFault {
     ghost from_gives = { λ _ fault. fault ≡ Memory };
 
     fn from(_memory: Memory) -> DrawFault {
-        DrawFault::Memory
-    }
-}
-
-impl From<AllocError> for DrawFault {
-    ghost use Rattle.psy_draw.specs.declared.fault.DrawFault.TheVariants.{Memory};
-
-    ghost from_gives = { λ _ fault. fault ≡ Memory };
-
-    fn from(_error: AllocError) -> DrawFault {
-        DrawFault::Memory
-    }
-}
-
-impl<T: Drop> From<AllocFailed<T>> for DrawFault {
-    ghost use Rattle.psy_draw.specs.declared.fault.DrawFault.TheVariants.{Memory};
-
-    ghost from_gives = { λ _ fault. fault ≡ Memory };
-
-    fn from(_failed: AllocFailed<T>) -> DrawFault {
         DrawFault::Memory
     }
 }

@@ -53,12 +53,7 @@ impl Few {
 fn has(seen: &[i32], value: i32) -> bool
     ensures { result ≡ list_any (λ w. int_eq w value) seen.now }
 {
-    for one in seen {
-        if *one == value {
-            return true;
-        }
-    }
-    false
+    seen.contains(&value)
 }
 
 // What a column keeps of its values.

@@ -1,14 +1,20 @@
 //! The file of a picture.
 
 ghost use Rattle.std.specs.Prelude.{◌≡◌, ◌<◌, ◌≤◌, IfOk, length, vec_len};
-ghost use Rattle.psy_draw.specs.Spelling.{svg_of};
+ghost use Rattle.psy_draw.specs.Pictures.{svg_of};
 
-use crate::page::Page;
 use psy_base::Memory;
+use psy_page::Page;
 use std::alloc::Global;
 
 /// The most bytes of a file's inside.
 pub const INSIDE_BYTES: usize = 1_999_900;
+
+/// A file begins.
+pub const SVG: &[u8] = b"<svg";
+
+/// A file ends.
+pub const SVG_END: &[u8] = b"</svg>\n";
 
 /// The inside of a picture that stands for one that would be too large.
 pub const TOO_LARGE: &[u8] =
@@ -41,8 +47,8 @@ pub fn too_large(alloc: Global) -> Result<Vec<u8>, Memory>
 fn whole(alloc: Global, inside: &[u8]) -> Result<Vec<u8>, Memory>
     ensures { IfOk result (λ svg. svg.items ≡ svg_of inside.now) }
 {
-    let mut file = Vec::from_slice(alloc, b"<svg")?;
+    let mut file = Vec::from_slice(alloc, SVG)?;
     file.extend_from_slice(inside)?;
-    file.extend_from_slice(b"</svg>\n")?;
+    file.extend_from_slice(SVG_END)?;
     Ok(file)
 }

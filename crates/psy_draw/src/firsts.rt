@@ -79,12 +79,7 @@ impl<'a> Firsts<'a> {
     pub fn agree(&self, other: &Firsts, summary: &[Note]) -> bool
         ensures { result ≡ list_all (agree_on self.now other.now) summary.now }
     {
-        for note in summary {
-            if !self.agree_on(other, note) {
-                return false;
-            }
-        }
-        true
+        summary.iter().all(|note| self.agree_on(other, note))
     }
 
     // Do both tell the same of the variable in a line of the summary, where it is one of a variable?

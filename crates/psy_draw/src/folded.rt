@@ -1,22 +1,43 @@
 //! The text of graphs that are folded by point.
-ghost use Rattle.std.specs.Prelude.{◌≡◌, ◌∷◌, ◌++◌, [], Some, IfOk, OnOk, codes, decimal, get_or, length, map};
+ghost use Rattle.std.specs.Prelude.{◌≡◌, ◌∷◌, ◌++◌, [], IfOk, OnOk, get_or, length, map};
 ghost use Rattle.std.specs.List.{flat_map, range_with_len};
-ghost use Rattle.psy_draw.specs.Folded.{arrow_by, arrow_text, arrows_text, box_of, box_text, cluster_text, color, ends_text, first_lines, folded_clusters};
-ghost use Rattle.psy_draw.specs.Graph.{node_name};
+ghost use Rattle.psy_draw.specs.Folded.{arrow_by, arrow_text, arrows_text, box_of, box_text, cluster_text, color, costs_text, first_lines, folded_clusters};
 ghost use Rattle.psy_draw.specs.Homes.{home_at, housed_of};
 ghost use Rattle.psy_draw.specs.Folded.{folded_of, more_lines, more_phase, more_phases, point_text, quoted};
 
-use crate::graph::{add_name, add_opening};
-use crate::home::{Home, home_at};
+use crate::graph::{CLUSTER, CLUSTER_END, GRAPHS, GRAPHS_END};
+use crate::home::{Home, ON, home_at};
 use crate::node::{Node, Step};
 use crate::nodes::{greatest_worst, inside, nodes_at, nodes_of, phases_to, steps_from};
 use psy_base::{Items, Text};
 use psy_log::Note;
-use psy_text::write::add_labelled;
+use psy_page::Piece::{Labelled, Long, Number, Raw};
+use psy_page::fill;
 use std::alloc::{AllocError, Global};
 
 /// The dates of a cycle that an arrow tells behind the first, at most.
 pub const MOST_PHASES: usize = 7;
+
+/// The box of a point of an agent, up to its line in the program's text
+pub const POINT: &[u8] = b"    \"$ $\" [label=\"point $\\n";
+
+/// What stands behind that line: its worst cost, its budget, and its color, where it has one
+pub const COSTS: &[u8] = b"\\nworst $ of $\"$];\n";
+
+/// The color of a box
+pub const RED: &[u8] = b", color=red";
+
+/// An arrow from a point of an agent to another, up to the first date of the cycle at which it starts
+pub const ARROW: &[u8] = b"    \"$ $\" -> \"$ $\" [label=\"at $";
+
+/// A further date of an arrow
+pub const PHASE: &[u8] = b", $";
+
+/// The dates that aren't told
+pub const MORE_PHASES: &[u8] = b", ..";
+
+/// An arrow ends.
+pub const ARROW_END: &[u8] = b"\"];\n";
 
 /// The graphs that the notes tell, folded by point, in the language DOT: a cluster for each agent, with its processor, where one is told; a box for each
 /// point at which its actions may start, with its line in the program's text, which is red where an action may cost more than its budget; and an arrow to
@@ -29,12 +50,9 @@ pub fn dot_by_point(
 ) -> Result<Vec<u8>, AllocError>
     ensures { IfOk result (λ text. text.items ≡ folded_of (map housed_of homes.now) lines.now notes.now) }
 {
-    let mut out = Vec::from_slice(
-        alloc,
-        b"digraph psyc {\n  rankdir=LR;\n  node [shape=box];\n",
-    )?;
+    let mut out = Vec::from_slice(alloc, GRAPHS)?;
     add_clusters(alloc, &mut out, notes, homes, lines)?;
-    out.extend_from_slice(b"}\n")?;
+    out.extend_from_slice(GRAPHS_END)?;
     Ok(out)
 }
 
@@ -112,13 +130,18 @@ fn add_cluster(
     ensures { OnOk result (out.new.items ≡ out.old.items ++ cluster_text agent.now processor lines.now notes.now) }
 {
     let nodes = nodes_of(alloc, notes)?;
-    add_opening(out, agent, processor)?;
+    fill(
+        out,
+        CLUSTER,
+        &[Raw(agent), Raw(agent), Labelled(ON, processor)],
+    )?;
     add_points(alloc, out, agent, lines, nodes.as_slice())?;
     add_arrows(alloc, out, agent, nodes.as_slice(), notes, lines.len())?;
-    out.extend_from_slice(b"  }\n")?;
+    out.extend_from_slice(CLUSTER_END)?;
     Ok(())
 }
 
+// Adds the boxes of the points at which actions start.
 fn add_points(
     alloc: Global,
     out: &mut Vec<u8>,
@@ -129,24 +152,10 @@ fn add_points(
     ensures { OnOk result (out.new.items ≡ out.old.items ++ flat_map (point_text agent.now lines.now nodes.now) (range_with_len 0 (length lines.now))) }
 {
     'points: for point in 0..lines.len() {
-        add_point(alloc, out, agent, lines, nodes, point)?;
+        let nodes = nodes_at(alloc, nodes, point)?;
+        add_box_of(out, agent, point, line_of(lines, point), nodes.as_slice())?;
     }
     Ok(())
-}
-
-// Adds the box of a point, where actions start there.
-fn add_point(
-    alloc: Global,
-    out: &mut Vec<u8>,
-    agent: &[u8],
-    lines: &[Text],
-    nodes: &[Node],
-    point: usize,
-) -> Result<(), AllocError>
-    ensures { OnOk result (out.new.items ≡ out.old.items ++ point_text agent.now lines.now nodes.now point) }
-{
-    let nodes = nodes_at(alloc, nodes, point)?;
-    add_box_of(out, agent, point, line_of(lines, point), nodes.as_slice())
 }
 
 fn line_of(lines: &[Text], point: usize) -> &[u8]
@@ -183,47 +192,31 @@ fn add_box(
 ) -> Result<(), AllocError>
     ensures { OnOk result (out.new.items ≡ out.old.items ++ box_text agent.now point line.now worst budget) }
 {
-    add_point_line(out, agent, point, line)?;
-    add_costs(out, worst, budget)?;
-    Ok(())
-}
-
-// Adds the front of a box, up to its point's line.
-fn add_point_line(
-    out: &mut Vec<u8>,
-    agent: &[u8],
-    point: usize,
-    line: &[u8],
-) -> Result<(), AllocError>
-    ensures { OnOk result (out.new.items ≡ out.old.items ++ codes "    " ++ node_name (Some agent.now) point ++ codes " [label=\"point " ++ decimal point
-        ++ codes "\\n" ++ flat_map quoted line.now) }
-{
-    out.extend_from_slice(b"    ")?;
-    add_name(out, Some(agent), point as u64)?;
-    add_labelled(out, b" [label=\"point ", point as u64)?;
-    out.extend_from_slice(b"\\n")?;
-    add_quoted(out, line)
+    fill(
+        out,
+        POINT,
+        &[Raw(agent), Long(point as u64), Long(point as u64)],
+    )?;
+    add_quoted(out, line)?;
+    add_costs(out, worst, budget)
 }
 
 // Adds the rest of a box.
 fn add_costs(out: &mut Vec<u8>, worst: u64, budget: u32) -> Result<(), AllocError>
-    ensures { OnOk result (out.new.items ≡ out.old.items ++ codes "\\nworst " ++ decimal worst ++ codes " of " ++ decimal budget ++ codes "\""
-        ++ color worst budget ++ codes "];\n") }
+    ensures { OnOk result (out.new.items ≡ out.old.items ++ costs_text worst budget) }
 {
-    add_labelled(out, b"\\nworst ", worst)?;
-    add_labelled(out, b" of ", u64::from(budget))?;
-    out.extend_from_slice(b"\"")?;
-    add_color(out, worst, budget)?;
-    out.extend_from_slice(b"];\n")
+    fill(
+        out,
+        COSTS,
+        &[Long(worst), Number(budget), Raw(color(worst, budget))],
+    )
 }
 
-fn add_color(out: &mut Vec<u8>, worst: u64, budget: u32) -> Result<(), AllocError>
-    ensures { OnOk result (out.new.items ≡ out.old.items ++ color worst budget) }
+// What makes a box red.
+fn color(worst: u64, budget: u32) -> &'static [u8]
+    ensures { result.now ≡ color worst budget }
 {
-    if worst <= u64::from(budget) {
-        return Ok(());
-    }
-    out.extend_from_slice(b", color=red")
+    if worst <= u64::from(budget) { b"" } else { RED }
 }
 
 fn add_quoted(out: &mut Vec<u8>, text: &[u8]) -> Result<(), AllocError>
@@ -275,21 +268,8 @@ fn add_arrows_from(
     ensures { OnOk result (out.new.items ≡ out.old.items ++ arrows_text agent.now nodes.now notes.now count from) }
 {
     let steps = steps_from(alloc, nodes, notes, from)?;
-    add_arrows_by(alloc, out, agent, steps.as_slice(), count, from)
-}
-
-fn add_arrows_by(
-    alloc: Global,
-    out: &mut Vec<u8>,
-    agent: &[u8],
-    steps: &[Step],
-    count: usize,
-    from: usize,
-) -> Result<(), AllocError>
-    ensures { OnOk result (out.new.items ≡ out.old.items ++ flat_map (arrow_text agent.now from steps.now) (range_with_len 0 count)) }
-{
     'points: for to in 0..count {
-        add_arrow(alloc, out, agent, steps, from, to)?;
+        add_arrow(alloc, out, agent, steps.as_slice(), from, to)?;
     }
     Ok(())
 }
@@ -306,19 +286,7 @@ fn add_arrow(
     ensures { OnOk result (out.new.items ≡ out.old.items ++ arrow_text agent.now from steps.now to) }
 {
     let phases = phases_to(alloc, steps, to)?;
-    add_arrow_by(out, agent, from, to, phases.as_slice())
-}
-
-fn add_arrow_by(
-    out: &mut Vec<u8>,
-    agent: &[u8],
-    from: usize,
-    to: usize,
-    phases: &[u64],
-) -> Result<(), AllocError>
-    ensures { OnOk result (out.new.items ≡ out.old.items ++ arrow_by agent.now from to phases.now) }
-{
-    match phases.split_first() {
+    match phases.as_slice().split_first() {
         Some((first, more)) => add_arrow_at(out, agent, from, to, *first, more),
         None => Ok(()),
     }
@@ -335,20 +303,12 @@ fn add_arrow_at(
 ) -> Result<(), AllocError>
     ensures { OnOk result (out.new.items ≡ out.old.items ++ arrow_by agent.now from to (first ∷ more.now)) }
 {
-    add_ends(out, agent, from, to)?;
-    add_labelled(out, b" [label=\"at ", first)?;
+    let from = Long(from as u64);
+    let to = Long(to as u64);
+    fill(out, ARROW, &[Raw(agent), from, Raw(agent), to, Long(first)])?;
     add_phases(out, more)?;
-    out.extend_from_slice(b"\"];\n")?;
+    out.extend_from_slice(ARROW_END)?;
     Ok(())
-}
-
-fn add_ends(out: &mut Vec<u8>, agent: &[u8], from: usize, to: usize) -> Result<(), AllocError>
-    ensures { OnOk result (out.new.items ≡ out.old.items ++ ends_text agent.now from to) }
-{
-    out.extend_from_slice(b"    ")?;
-    add_name(out, Some(agent), from as u64)?;
-    out.extend_from_slice(b" -> ")?;
-    add_name(out, Some(agent), to as u64)
 }
 
 // Adds the dates behind the first.
@@ -359,14 +319,14 @@ fn add_phases(out: &mut Vec<u8>, more: &[u64]) -> Result<(), AllocError>
         return add_each_phase(out, more);
     }
     add_each_phase(out, &more[..MOST_PHASES])?;
-    out.extend_from_slice(b", ..")
+    out.extend_from_slice(MORE_PHASES)
 }
 
 fn add_each_phase(out: &mut Vec<u8>, phases: &[u64]) -> Result<(), AllocError>
     ensures { OnOk result (out.new.items ≡ out.old.items ++ flat_map more_phase phases.now) }
 {
     for phase in phases {
-        add_labelled(out, b", ", *phase)?;
+        fill(out, PHASE, &[Long(*phase)])?;
     }
     Ok(())
 }

@@ -1,7 +1,8 @@
 //! How large the parts of a picture are.
 
 ghost use Rattle.std.specs.Prelude.{◌≡◌, ◌≤◌, ◌+◌, length, nat_le};
-ghost use Rattle.psy_draw.specs.Frames.{bottom_of, inputs_top, left_of, legend_top, longest_bound, picture_height, picture_width, shape_letters, tables_top};
+ghost use Rattle.psy_draw.specs.Frames.{HaveRoom, bottom_of, inputs_top, left_of, legend_top, longest_bound, picture_height, picture_width, shape_letters};
+ghost use Rattle.psy_draw.specs.Frames.{tables_top};
 ghost use Rattle.psy_draw.specs.Heads.{longest_name};
 ghost use Rattle.psy_draw.specs.Places.{width_of};
 ghost use Rattle.psy_draw.specs.Summaries.{tables_height, tables_width};
@@ -53,7 +54,8 @@ pub struct Frame {
 impl Frame {
     /// The frame in which these lanes have room.
     pub fn of(lanes: &[Lane], inputs: &Inputs, tables: &Tables) -> Frame
-        requires { length lanes.now ≤ MOST_LANES }
+        requires lanes { length lanes.now ≤ MOST_LANES }
+        requires tables { HaveRoom tables.now }
         ensures bottom { result.bottom ≡ bottom_of lanes.now }
         ensures inputs { result.inputs ≡ inputs_top lanes.now }
         ensures legend { result.legend ≡ legend_top lanes.now inputs.now.lines }

@@ -61,15 +61,15 @@ impl<'a> Gathering<'a> {
         Ok(())
     }
 
-    /// Takes in notes, one by one.
-    pub fn add_all(&mut self, by: Stops<'a, '_>, notes: &[Note]) -> Result<(), Memory>
+    /// Takes in more notes, one by one.
+    pub fn add_all(&mut self, by: Stops<'a, '_>, more: &[Note]) -> Result<(), Memory>
         ensures variables { self.new.variables.names ≡ self.old.variables.names }
         ensures streams { self.new.streams.names ≡ self.old.streams.names }
-        ensures gathers { OnOk result ((values : List ℕ → List Dated) → list_all (is_known by.entry.agents.now) notes.now ≡ true
-            → Gathers by.entry.scale.now (map housed_of by.entry.homes.now) (map string_bytes by.entry.names.now) values [] self.old
-            → Gathers by.entry.scale.now (map housed_of by.entry.homes.now) (map string_bytes by.entry.names.now) values notes.now self.new) }
+        ensures gathers { OnOk result ((values : List ℕ → List Dated) (notes : List Note) → list_all (is_known by.entry.agents.now) more.now ≡ true
+            → Gathers by.entry.scale.now (map housed_of by.entry.homes.now) (map string_bytes by.entry.names.now) values notes self.old
+            → Gathers by.entry.scale.now (map housed_of by.entry.homes.now) (map string_bytes by.entry.names.now) values (notes ++ more.now) self.new) }
     {
-        for note in notes {
+        for note in more {
             self.add(by, note)?;
         }
         Ok(())

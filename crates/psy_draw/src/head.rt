@@ -1,16 +1,14 @@
 //! The head of a picture: its size, its title and its look.
 
-ghost use Rattle.std.specs.Prelude.{◌≡◌, ◌&&◌, ◌++◌, not, OnOk};
-ghost use Rattle.std.specs.List.{list_any};
-ghost use Rattle.psy_draw.specs.Titles.{has_slash, head_text, is_inside, is_title, look_text, size_text, title_end, title_text};
+ghost use Rattle.std.specs.Prelude.{◌≡◌, ◌&&◌, ◌++◌, OnOk};
+ghost use Rattle.psy_draw.specs.Titles.{has_slash, head_text, is_inside, is_title, title_end};
 
 use crate::frame::Frame;
-use crate::layout::MARGIN;
-use crate::page::Page;
-use crate::piece::Piece;
 use crate::scale::Scale;
 use crate::style::STYLE;
 use psy_base::Memory;
+use psy_page::Page;
+use psy_page::Piece::{Number, Raw, Text};
 
 /// The height of the title.
 pub const TITLE_HEIGHT: u32 = 26;
@@ -18,60 +16,39 @@ pub const TITLE_HEIGHT: u32 = 26;
 // The most letters of a file's name that are written.
 const MOST_LETTERS: usize = 100;
 
-/// Adds the head.
+/// The head of a picture of a size: its title for those who hear it, its look, and the title for those who see it.
+pub const HEAD: &[u8] =
+    b" xmlns=\"http://www.w3.org/2000/svg\" width=\"$\" height=\"$\" viewBox=\"0 0 $ $\" role=\"img\">
+<title>$: dates $ to $</title>
+$<rect class=\"page\" width=\"100%\" height=\"100%\"/>
+<g class=\"title\" transform=\"translate(12 0)\">
+<text y=\"19\">$: dates $ to $</text>
+</g>
+";
+
+/// Adds the head. The title is the name of the file without its folder, or its end where it is long, and the dates.
 pub fn put_head(page: &mut Page, frame: &Frame, scale: &Scale, title: &str) -> Result<(), Memory>
     ensures { OnOk result (page.new ≡ page.old ++ head_text frame.now.width frame.now.height title.now scale.now.from scale.now.to) }
 {
-    put_size(page, frame.width, frame.height)?;
-    put_title(page, scale, title)?;
-    put_look(page)?;
-    put_title(page, scale, title)?;
-    page.put(&[Piece::Raw(b"</text>\n</g>\n")])?;
-    Ok(())
-}
-
-fn put_size(page: &mut Page, width: u32, height: u32) -> Result<(), Memory>
-    ensures { OnOk result (page.new ≡ page.old ++ size_text width height) }
-{
-    page.put(&[
-        Piece::Raw(b" xmlns=\"http://www.w3.org/2000/svg\" width=\""),
-        Piece::Number(width),
-        Piece::Raw(b"\" height=\""),
-        Piece::Number(height),
-        Piece::Raw(b"\" viewBox=\"0 0 "),
-        Piece::Number(width),
-        Piece::Raw(b" "),
-        Piece::Number(height),
-        Piece::Raw(b"\" role=\"img\">\n<title>"),
-    ])
-}
-
-// Adds the look, and begins the title that is seen.
-fn put_look(page: &mut Page) -> Result<(), Memory>
-    ensures { OnOk result (page.new ≡ page.old ++ look_text) }
-{
-    page.put(&[
-        Piece::Raw(b"</title>\n"),
-        Piece::Raw(STYLE),
-        Piece::Raw(
-            b"<rect class=\"page\" width=\"100%\" height=\"100%\"/>\n<g class=\"title\" transform=\"translate(",
-        ),
-        Piece::Number(MARGIN),
-        Piece::Raw(b" 0)\">\n<text y=\"19\">"),
-    ])
-}
-
-// Writes the name of the file without its folder, or its end where it is long, and the dates.
-fn put_title(page: &mut Page, scale: &Scale, title: &str) -> Result<(), Memory>
-    ensures { OnOk result (page.new ≡ page.old ++ title_text title.now scale.now.from scale.now.to) }
-{
-    page.put(&[
-        Piece::Text(end_of(title.as_bytes())),
-        Piece::Raw(b": dates "),
-        Piece::Number(scale.from),
-        Piece::Raw(b" to "),
-        Piece::Number(scale.to),
-    ])
+    let Frame { width, height, .. } = *frame;
+    let Scale { from, to, .. } = *scale;
+    let name = end_of(title.as_bytes());
+    page.fill(
+        HEAD,
+        &[
+            Number(width),
+            Number(height),
+            Number(width),
+            Number(height),
+            Text(name),
+            Number(from),
+            Number(to),
+            Raw(STYLE),
+            Text(name),
+            Number(from),
+            Number(to),
+        ],
+    )
 }
 
 // The last letters of a name, behind its last slash.
@@ -108,10 +85,5 @@ fn is_inside(byte: u8) -> bool
 fn has_slash(name: &[u8]) -> bool
     ensures { result ≡ has_slash name.now }
 {
-    for byte in name {
-        if *byte == b'/' {
-            return true;
-        }
-    }
-    false
+    name.contains(&b'/')
 }

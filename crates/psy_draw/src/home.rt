@@ -1,11 +1,8 @@
 //! Of which processors agents are.
-ghost use Rattle.std.specs.Prelude.{◌≡◌, ◌≤◌, ◌++◌, OnOk, length, map};
-ghost use Rattle.psy_log.specs.Forms.{on_processor};
-ghost use Rattle.psy_draw.specs.Homes.{home_at, housed_of};
+ghost use Rattle.std.specs.Prelude.{◌≡◌, ◌≤◌, length, map};
+ghost use Rattle.psy_draw.specs.Homes.{home_at, housed_of, on_processor};
 
 use crate::labels::digits_of;
-use psy_text::write::add_labelled;
-use std::alloc::AllocError;
 
 /// An agent, and the processor that it is of, where that is told beside its name.
 #[derive(Clone, Copy, Debug, Drop)]
@@ -26,23 +23,16 @@ pub fn home_at(homes: &[Home], name: &[u8]) -> Option<u32>
     None
 }
 
-/// Adds ` on N`, where there is a processor.
-pub fn add_processor(out: &mut Vec<u8>, processor: Option<u32>) -> Result<(), AllocError>
-    ensures { OnOk result (out.new.items ≡ out.old.items ++ on_processor processor) }
-{
-    match processor {
-        Some(number) => add_labelled(out, b" on ", u64::from(number)),
-        None => Ok(()),
-    }
-}
+/// Before the processor of an agent.
+pub const ON: &[u8] = b" on ";
 
-/// How many letters that has.
+/// How many letters that and a processor have, where there is one.
 pub fn processor_letters(processor: Option<u32>) -> usize
     ensures letters { result ≡ length (on_processor processor) }
     ensures few { result ≤ 14 }
 {
     match processor {
-        Some(number) => b" on ".len() + digits_of(u64::from(number)),
+        Some(number) => ON.len() + digits_of(u64::from(number)),
         None => 0,
     }
 }

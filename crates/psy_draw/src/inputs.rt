@@ -1,16 +1,13 @@
 //! The line that names the variables without a value.
 
-ghost use Rattle.std.specs.Prelude.{◌≡◌, ◌≤◌, ◌+◌, ◌*◌, ◌++◌, ◌||◌, codes, map, nat_le, IfOk, OnOk};
-ghost use Rattle.std.specs.List.{flat_map};
-ghost use Rattle.psy_draw.specs.Spelling.{escaped};
-ghost use Rattle.psy_draw.specs.Inputs.{behind_name, behind_names, end_text, input_lines, input_text};
-ghost use Rattle.psy_draw.specs.Inputs.{last_of, letters_for, line_head, name_text, names_text, no_line};
+ghost use Rattle.std.specs.Prelude.{◌≡◌, ◌≤◌, ◌+◌, ◌*◌, ◌++◌, ◌||◌, map, nat_le, IfOk, OnOk};
+ghost use Rattle.psy_draw.specs.Inputs.{behind_name, end_text, input_lines, input_text};
+ghost use Rattle.psy_draw.specs.Inputs.{last_of, letters_for, name_text};
 
-use crate::layout::MARGIN;
 use crate::line::Line;
-use crate::page::Page;
-use crate::piece::Piece;
 use psy_base::Memory;
+use psy_page::Page;
+use psy_page::Piece::{Number, Raw, Text};
 use std::alloc::Global;
 
 /// The height of a line.
@@ -22,8 +19,20 @@ const MOST_LETTERS: usize = 150;
 // The most lines.
 const MOST_LINES: u32 = 4_000;
 
-// What stands before the first name.
-const LEAD: &[u8] = b"inputs, which a run doesn't tell: ";
+/// What stands before the first name.
+pub const LEAD: &[u8] = b"inputs, which a run doesn't tell: ";
+
+/// The first name, in the first line
+pub const FIRST_NAME: &[u8] = b"<text x=\"12\" y=\"$\">$$";
+
+/// A name behind another in a line
+pub const NEXT_NAME: &[u8] = b", $";
+
+/// A name in a line behind the last one
+pub const FURTHER_NAME: &[u8] = b",</text>\n<text x=\"12\" y=\"$\">$";
+
+/// A line ends.
+pub const TEXT_END: &[u8] = b"</text>\n";
 
 /// The names of the variables without a value, as lines of text.
 #[derive(Drop)]
@@ -40,7 +49,10 @@ impl Inputs {
         ensures lines { IfOk result (λ inputs. inputs.lines ≡ input_lines (map (λ n. n.now) names.now)) }
     {
         let mut text = Page::new(alloc);
-        let line = put_names(&mut text, names)?;
+        let mut line = Line::none();
+        'names: for name in names {
+            line = put_name(&mut text, line, name)?;
+        }
         put_end(&mut text, line.number)?;
         Ok(Inputs {
             text,
@@ -57,18 +69,6 @@ impl Inputs {
     }
 }
 
-// Adds names, and tells the last line.
-fn put_names(text: &mut Page, names: &[&[u8]]) -> Result<Line, Memory>
-    ensures { IfOk result (λ line. (text.new ≡ text.old ++ names_text no_line (map (λ n. n.now) names.now))
-        × (last_of line ≡ behind_names no_line (map (λ n. n.now) names.now))) }
-{
-    let mut line = Line::none();
-    'names: for name in names {
-        line = put_name(text, line, name)?;
-    }
-    Ok(line)
-}
-
 // Ends the last line, where there is one.
 fn put_end(text: &mut Page, number: u32) -> Result<(), Memory>
     ensures { OnOk result (text.new ≡ text.old ++ end_text number) }
@@ -76,7 +76,7 @@ fn put_end(text: &mut Page, number: u32) -> Result<(), Memory>
     if number == 0 {
         return Ok(());
     }
-    text.put(&[Piece::Raw(b"</text>\n")])
+    text.add(TEXT_END)
 }
 
 // Adds a name, in a further line where it has no room.
@@ -85,24 +85,22 @@ fn put_name(text: &mut Page, line: Line, name: &[u8]) -> Result<Line, Memory>
 {
     let letters = letters_for(name);
     if line.number == 0 {
-        put_first(text, name)?;
+        text.fill(FIRST_NAME, &[Number(LINE_HEIGHT), Raw(LEAD), Text(name)])?;
         return Ok(Line {
             number: 1,
             letters: LEAD.len() + letters,
         });
     }
     if has_room(line, letters) {
-        text.put(&[Piece::Raw(b", "), Piece::Text(name)])?;
+        text.fill(NEXT_NAME, &[Text(name)])?;
         return Ok(Line {
             number: line.number,
             letters: (line.letters + letters).min(MOST_LETTERS),
         });
     }
-    put_further(text, line.number + 1, name)?;
-    Ok(Line {
-        number: line.number + 1,
-        letters,
-    })
+    let number = line.number + 1;
+    text.fill(FURTHER_NAME, &[Number(number * LINE_HEIGHT), Text(name)])?;
+    Ok(Line { number, letters })
 }
 
 // The letters that a name takes, with what stands behind it.
@@ -119,38 +117,4 @@ fn has_room(line: Line, letters: usize) -> bool
     ensures { result ≡ (nat_le (line.letters + letters) 150 || nat_le 4000 line.number) }
 {
     line.letters + letters <= MOST_LETTERS || MOST_LINES <= line.number
-}
-
-// Begins the first line, with a name.
-fn put_first(text: &mut Page, name: &[u8]) -> Result<(), Memory>
-    ensures { OnOk result (text.new ≡ text.old ++ (line_head 1 ++ (codes "inputs, which a run doesn't tell: " ++ flat_map escaped name.now))) }
-{
-    begin(text, 1)?;
-    text.put(&[Piece::Raw(LEAD), Piece::Text(name)])?;
-    Ok(())
-}
-
-// Ends a line, and begins the one of this number, with a name.
-fn put_further(text: &mut Page, number: u32, name: &[u8]) -> Result<(), Memory>
-    requires { number ≤ 4000 }
-    ensures { OnOk result (text.new ≡ text.old ++ (codes ",</text>\n" ++ (line_head number ++ flat_map escaped name.now))) }
-{
-    text.put(&[Piece::Raw(b",</text>\n")])?;
-    begin(text, number)?;
-    text.put(&[Piece::Text(name)])?;
-    Ok(())
-}
-
-// Begins a line.
-fn begin(text: &mut Page, number: u32) -> Result<(), Memory>
-    requires { number ≤ 4000 }
-    ensures { OnOk result (text.new ≡ text.old ++ line_head number) }
-{
-    text.put(&[
-        Piece::Raw(b"<text x=\""),
-        Piece::Number(MARGIN),
-        Piece::Raw(b"\" y=\""),
-        Piece::Number(number * LINE_HEIGHT),
-        Piece::Raw(b"\">"),
-    ])
 }

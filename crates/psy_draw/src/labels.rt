@@ -1,6 +1,6 @@
 //! The values beside a line.
 
-ghost use Rattle.std.specs.Prelude.{◌≡◌, ◌≤◌, ◌+◌, ◌-◌, ◌/◌, ◌++◌, ◌&&◌, decimal, length, nat_le, IsTrue, OnOk};
+ghost use Rattle.std.specs.Prelude.{◌≡◌, ◌≤◌, ◌+◌, ◌-◌, ◌/◌, ◌++◌, ◌&&◌, decimal, length, nat_le, OnOk};
 ghost use Rattle.std.specs.Fmt.{signed_decimal};
 ghost use Rattle.psy_draw.specs.Columns.{none_greater, none_less, up_to};
 ghost use Rattle.psy_draw.specs.Curves.{holds, side_by};
@@ -9,11 +9,12 @@ ghost use Rattle.psy_draw.specs.Places.{width_of};
 
 use crate::column::Column;
 use crate::layout::{LABEL_LETTER, RIGHT_MARGIN, width_of};
-use crate::page::Page;
-use crate::piece::Piece;
+use crate::markup::LABEL;
 use crate::scale::PLOT_WIDTH;
 use itoa::Buffer;
 use psy_base::Memory;
+use psy_page::Page;
+use psy_page::Piece::{Number, Value};
 
 /// What stays free between two labels.
 pub const LABEL_GAP: u32 = 4;
@@ -152,13 +153,5 @@ fn has_none_less(value: i32, columns: &[Column], to: u32) -> bool
 pub fn put_label(page: &mut Page, x: u32, y: u32, value: i32) -> Result<(), Memory>
     ensures { OnOk result (page.new ≡ page.old ++ label_text x y value) }
 {
-    page.put(&[
-        Piece::Raw(b"<text x=\""),
-        Piece::Number(x),
-        Piece::Raw(b"\" y=\""),
-        Piece::Number(y),
-        Piece::Raw(b"\">"),
-        Piece::Value(value),
-        Piece::Raw(b"</text>\n"),
-    ])
+    page.fill(LABEL, &[Number(x), Number(y), Value(value)])
 }

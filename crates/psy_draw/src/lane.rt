@@ -1,6 +1,6 @@
 //! A lane of a picture.
 
-ghost use Rattle.std.specs.Prelude.{◌≡◌, ◌≤◌, length};
+ghost use Rattle.std.specs.Prelude.{◌≡◌, ◌≤◌};
 ghost use Rattle.psy_draw.specs.Heads.{name_letters};
 ghost use Rattle.psy_draw.specs.Shapes.{class_of, columns_of, height_of, processor_of};
 
@@ -74,13 +74,14 @@ impl<'a> Lane<'a> {
         self.name.len() + processor_letters(self.processor())
     }
 
-    /// How many columns it has.
-    pub fn columns(&self) -> usize
-        ensures { result ≡ length (columns_of self.now.shape) }
+    /// Its columns.
+    pub fn columns(&self) -> &[Column]
+        ensures { result.now ≡ columns_of self.now.shape }
     {
         match &self.shape {
-            Shape::Stop(_) => 0,
-            Shape::Curve(columns) | Shape::Boxes(columns) | Shape::Marks(columns) => columns.len(),
+            Shape::Stop(_) => &[],
+            Shape::Curve(columns) | Shape::Boxes(columns) | Shape::Marks(columns) =>
+                columns.as_slice(),
         }
     }
 }

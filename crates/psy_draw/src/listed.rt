@@ -1,6 +1,6 @@
 //! The names that a summary lists.
 
-ghost use Rattle.std.specs.Prelude.{◌≡◌, ◌||◌, ℕ, List, IfOk, OnOk};
+ghost use Rattle.std.specs.Prelude.{IfOk, OnOk};
 ghost use Rattle.psy_draw.specs.Listing.{Adds, Lists, ends_agent, ends_stream, ends_variable};
 
 use crate::names::Names;

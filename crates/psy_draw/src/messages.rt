@@ -1,43 +1,48 @@
 //! The lane of a stream: a mark for each message.
 
 ghost use Rattle.std.specs.Prelude.{◌≡◌, ◌≤◌, ◌++◌, OnOk};
-ghost use Rattle.std.specs.List.{flat_map};
-ghost use Rattle.psy_draw.specs.Insides.{first_text, mark_label, mark_labels, mark_text, mark_width, marks_inside, told_more};
+ghost use Rattle.psy_draw.specs.Insides.{mark_label, mark_labels, mark_width, marks_inside, marks_text, more_of};
 
 use crate::column::Column;
 use crate::labels::{self, Extent};
-use crate::page::Page;
-use crate::piece::Piece;
+use crate::markup::PATH_END;
+use crate::scale::PLOT_WIDTH;
 use psy_base::Memory;
+use psy_page::Page;
+use psy_page::Piece::{Labelled, Number, Value};
 
 /// The height of a lane.
 pub const MESSAGES_HEIGHT: u32 = 36;
 
-// Where the labels stand.
-const LABELS: u32 = 15;
+/// A line up to a place, on which marks begin.
+pub const MARKS: &[u8] = b"<path class=\"base\" d=\"M0 24H$\"/>
+<path class=\"mark\" d=\"";
+
+/// A mark at a place.
+pub const MARK: &[u8] = b"M$ 24h0";
+
+/// What stands over a mark: a value, and how many more there are.
+pub const MARK_LABEL: &[u8] = b"<text x=\"$\" y=\"15\">$$</text>\n";
+
+/// Before how many more there are.
+pub const MORE: &[u8] = b" +";
 
 /// Draws a stream.
 pub fn draw_messages(page: &mut Page, columns: &[Column]) -> Result<(), Memory>
     ensures { OnOk result (page.new ≡ page.old ++ marks_inside columns.now) }
 {
-    page.put(&[Piece::Raw(b"<path class=\"base\" d=\"M0 24H960\"/>\n<path class=\"mark\" d=\"")])?;
     put_marks(page, columns)?;
-    page.put(&[Piece::Raw(b"\"/>\n")])?;
-    put_labels(page, columns)?;
-    Ok(())
+    put_labels(page, columns)
 }
 
 fn put_marks(page: &mut Page, columns: &[Column]) -> Result<(), Memory>
-    ensures { OnOk result (page.new ≡ page.old ++ flat_map mark_text columns.now) }
+    ensures { OnOk result (page.new ≡ page.old ++ marks_text columns.now) }
 {
+    page.fill(MARKS, &[Number(PLOT_WIDTH)])?;
     for column in columns {
-        page.put(&[
-            Piece::Raw(b"M"),
-            Piece::Number(column.x),
-            Piece::Raw(b" 24h0"),
-        ])?;
+        page.fill(MARK, &[Number(column.x)])?;
     }
-    Ok(())
+    page.add(PATH_END)
 }
 
 // Writes each first value of a column over its mark, where there is room.
@@ -71,31 +76,17 @@ fn width_of(column: &Column) -> u32
 fn put_label(page: &mut Page, x: u32, column: &Column) -> Result<(), Memory>
     ensures { OnOk result (page.new ≡ page.old ++ mark_label x column.now) }
 {
-    put_first(page, x, column.first)?;
-    put_more(page, column.more)?;
-    page.put(&[Piece::Raw(b"</text>\n")])?;
-    Ok(())
+    let more = Labelled(MORE, more_of(column));
+    page.fill(MARK_LABEL, &[Number(x), Value(column.first), more])
 }
 
-fn put_first(page: &mut Page, x: u32, value: i32) -> Result<(), Memory>
-    ensures { OnOk result (page.new ≡ page.old ++ first_text x value) }
+// How many more messages there are than the first, where there are some.
+fn more_of(column: &Column) -> Option<u32>
+    ensures { result ≡ more_of column.now }
 {
-    page.put(&[
-        Piece::Raw(b"<text x=\""),
-        Piece::Number(x),
-        Piece::Raw(b"\" y=\""),
-        Piece::Number(LABELS),
-        Piece::Raw(b"\">"),
-        Piece::Value(value),
-    ])
-}
-
-// Tells how many more messages there are, where there are some.
-fn put_more(page: &mut Page, more: u32) -> Result<(), Memory>
-    ensures { OnOk result (page.new ≡ page.old ++ told_more more) }
-{
-    if more == 0 {
-        return Ok(());
+    if column.more == 0 {
+        None
+    } else {
+        Some(column.more)
     }
-    page.put(&[Piece::Raw(b" +"), Piece::Number(more)])
 }

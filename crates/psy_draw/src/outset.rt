@@ -91,12 +91,13 @@ impl<'a> Outset<'a> {
             && self.firsts.agree(&other.firsts, summary)
     }
 
-    /// Takes in notes, one by one.
-    pub fn add_all(&mut self, notes: &[Note], names: &[String], from: u32)
+    /// Takes in more notes, one by one.
+    pub fn add_all(&mut self, more: &[Note], names: &[String], from: u32)
         ensures names { self.new.firsts.names ≡ self.old.firsts.names }
-        ensures counts { Counts (map string_bytes names.now) from [] self.old → Counts (map string_bytes names.now) from notes.now self.new }
+        ensures counts { (notes : List Note) → Counts (map string_bytes names.now) from notes self.old
+            → Counts (map string_bytes names.now) from (notes ++ more.now) self.new }
     {
-        for note in notes {
+        for note in more {
             self.add(note, names, from);
         }
     }

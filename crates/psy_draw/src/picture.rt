@@ -7,9 +7,11 @@ ghost use Rattle.psy_draw.specs.Drawing.{column_count, stacked, tells_parts};
 ghost use Rattle.psy_draw.specs.Sayings.{HasSummary};
 ghost use Rattle.psy_draw.specs.Scales.{IsScaleOf, place_by};
 ghost use Rattle.psy_draw.specs.Silences.{silent_of};
-ghost use Rattle.psy_draw.specs.Sources.{HasNames, IsCrowdedBy, IsFileBy, IsInsideBy, IsOf};
+ghost use Rattle.psy_draw.specs.Sources.{HasNames, IsFileBy, IsOf};
 ghost use Rattle.psy_draw.specs.Gathering.{AreFirst, Gathers, asks_stream, asks_variable, first_values, is_known};
-ghost use Rattle.psy_draw.specs.Pictures.{IsFileOf, dates_text, inputs_group, lower_text, parts_text};
+ghost use Rattle.psy_draw.specs.Frames.{HaveRoom};
+ghost use Rattle.psy_draw.specs.Inputs.{input_lines, input_text};
+ghost use Rattle.psy_draw.specs.Pictures.{IsFileOf, dates_text, inputs_group, parts_text, ticks_text};
 ghost use Rattle.psy_draw.specs.Summaries.{behind_table, table_width, tables_text, titles_of};
 ghost use Rattle.psy_draw.specs.Homes.{housed_of};
 ghost use Rattle.psy_draw.specs.Knowledge.{knowledge_of};
@@ -20,7 +22,7 @@ ghost use Rattle.psy_draw.specs.declared.window.Window.{Window};
 ghost use Rattle.psy_draw.specs.Tables.{NamesFault, AllListed};
 
 use crate::DrawFault;
-use crate::axis::{AXIS_HEIGHT, draw_axis, draw_grid};
+use crate::axis::{AXIS_HEIGHT, draw_axis, draw_grid, ticks_of};
 use crate::drawing::draw_lane;
 use crate::file::{file_of, too_large};
 use crate::firsts::Firsts;
@@ -32,14 +34,12 @@ use crate::inputs::Inputs;
 use crate::known::Known;
 use crate::lane::Lane;
 use crate::layout::{Corner, MARGIN};
-use crate::legend::put_legend;
+use crate::legend::{INPUTS, LEGEND};
 use crate::listed::Listed;
 use crate::names::Names;
 use crate::outset::Outset;
-use crate::page::Page;
-use crate::piece::Piece;
 use crate::plan::Plan;
-use crate::room::{MOST_LANES, RoomFault};
+use crate::room::MOST_LANES;
 use crate::scale::{Scale, first_date};
 use crate::silence::Silence;
 use crate::source::Source;
@@ -50,6 +50,8 @@ use crate::unlisted::{first_unknown, first_unlisted};
 use crate::window::Window;
 use psy_base::Memory;
 use psy_log::Note;
+use psy_page::Page;
+use psy_page::Piece::{Number, Raw};
 use std::alloc::Global;
 
 // What was asked for: the agents of the summary, the names, and what the program tells.
@@ -227,37 +229,38 @@ fn file_by<'a>(
     ensures picture { IfOk result (λ svg. (notes : List Note) → IsOf source.entry stopped.entry notes → IsFileBy title.now source.entry notes svg.items) }
     ensures small { IfOk result (λ svg. vec_len svg ≤ 2000000) }
 {
-    match inside_of(alloc, title, source, stopped) {
-        Ok(inside) => Ok(file_of(alloc, &inside)?),
-        Err(RoomFault::Full) => Ok(too_large(alloc)?),
-        Err(RoomFault::Memory) => Err(Memory),
+    let Stopped { lanes, full } = stopped;
+    if full {
+        return too_large(alloc);
     }
+    let plan = Plan::of(alloc, source, lanes)?;
+    let tables = Tables::of(alloc, source.summary)?;
+    if plan.is_crowded() {
+        return too_large(alloc);
+    }
+    if tables.is_crowded() {
+        return too_large(alloc);
+    }
+    let inside = inside_of(alloc, title, source.scale, &plan, &tables)?;
+    file_of(alloc, &inside)
 }
 
 // The inside of the file.
-fn inside_of<'a>(
+fn inside_of(
     alloc: Global,
     title: &str,
-    source: Source<'a, '_>,
-    stopped: Stopped<'a>,
-) -> Result<Page, RoomFault>
-    requires { HasNames source }
-    ensures inside { IfOk result (λ page. (notes : List Note) → IsOf source.entry stopped.entry notes → IsInsideBy title.now source.entry notes page) }
-    ensures room { OnOk result ((notes : List Note) → IsOf source.entry stopped.entry notes → IsCrowdedBy source.entry notes → ⊥) }
-    ensures full { result ≡ Err RoomFault.Full → (notes : List Note) → IsOf source.entry stopped.entry notes → IsCrowdedBy source.entry notes }
+    scale: &Scale,
+    plan: &Plan,
+    tables: &Tables,
+) -> Result<Page, Memory>
+    requires lanes { length plan.now.lanes.items ≤ MOST_LANES }
+    requires tables { HaveRoom tables.now }
+    ensures { IfOk result (λ page. page ≡ parts_text title.now scale.now.from scale.now.to scale.now.grain plan.now.lanes.items
+        (input_lines (map (λ n. n.now) plan.now.inputs.items)) (input_text (map (λ n. n.now) plan.now.inputs.items))
+        tables.now.agents.rows.items tables.now.variables.rows.items tables.now.streams.rows.items) }
 {
-    let plan = match Plan::of(alloc, source, stopped) {
-        Ok(plan) => plan,
-        Err(fault) => return Err(fault),
-    };
     let inputs = Inputs::of(alloc, plan.inputs.as_slice())?;
-    let tables = match Tables::of(alloc, source.summary) {
-        Ok(tables) => tables,
-        Err(fault) => return Err(fault),
-    };
-    let lanes = plan.lanes.as_slice();
-    let page = parts_of(alloc, title, source.scale, lanes, &inputs, &tables)?;
-    Ok(page)
+    parts_of(alloc, title, scale, plan.lanes.as_slice(), &inputs, tables)
 }
 
 // The parts of the picture, one behind the other.
@@ -269,69 +272,46 @@ fn parts_of(
     inputs: &Inputs,
     tables: &Tables,
 ) -> Result<Page, Memory>
-    requires { length lanes.now ≤ MOST_LANES }
+    requires lanes { length lanes.now ≤ MOST_LANES }
+    requires tables { HaveRoom tables.now }
     ensures { IfOk result (λ page. page ≡ parts_text title.now scale.now.from scale.now.to scale.now.grain lanes.now inputs.now.lines inputs.now.text
         tables.now.agents.rows.items tables.now.variables.rows.items tables.now.streams.rows.items) }
 {
     let frame = Frame::of(lanes, inputs, tables);
     let mut page = Page::new(alloc);
     put_head(&mut page, &frame, scale, title)?;
-    put_dates(&mut page, &frame, scale)?;
-    put_lanes(alloc, &mut page, scale, frame.left, lanes)?;
+    put_dates(alloc, &mut page, &frame, scale)?;
+    put_lanes(&mut page, scale, frame.left, lanes, tells_parts(lanes))?;
     put_inputs(&mut page, frame.inputs, inputs)?;
-    put_legend(&mut page, frame.legend)?;
+    page.fill(LEGEND, &[Number(frame.legend)])?;
     put_tables(&mut page, frame.tables, tables)?;
     Ok(page)
 }
 
-fn put_dates(page: &mut Page, frame: &Frame, scale: &Scale) -> Result<(), Memory>
+fn put_dates(alloc: Global, page: &mut Page, frame: &Frame, scale: &Scale) -> Result<(), Memory>
     ensures { OnOk result (page.new ≡ page.old ++ dates_text scale.now.from scale.now.to scale.now.grain frame.now.left frame.now.bottom) }
 {
+    let ticks = ticks_of(alloc, scale)?;
+    put_ticks(page, frame, scale, ticks.as_slice())
+}
+
+// Draws the grid, and the axis above the lanes, and the one below them, where they are high.
+fn put_ticks(page: &mut Page, frame: &Frame, scale: &Scale, ticks: &[u32]) -> Result<(), Memory>
+    ensures { OnOk result (page.new ≡ page.old ++ ticks_text (place_by scale.now) ticks.now frame.now.left frame.now.bottom) }
+{
     let Frame { left, bottom, .. } = *frame;
-    draw_grid(page, scale, left, LANES_TOP, bottom)?;
     let top = LANES_TOP - AXIS_HEIGHT;
-    draw_axis(page, scale, Corner { left, top })?;
-    put_lower(page, scale, left, bottom)?;
-    Ok(())
-}
-
-// Draws the axis below the lanes, where they are high.
-fn put_lower(page: &mut Page, scale: &Scale, left: u32, bottom: u32) -> Result<(), Memory>
-    requires { 12 ≤ left }
-    ensures { OnOk result (page.new ≡ page.old ++ lower_text scale.now.from scale.now.to scale.now.grain left bottom) }
-{
-    if !is_high(bottom) {
-        return Ok(());
+    draw_grid(page, scale, ticks, left, bottom)?;
+    draw_axis(page, scale, ticks, Corner { left, top })?;
+    if is_high(bottom) {
+        draw_axis(page, scale, ticks, Corner { left, top: bottom })
+    } else {
+        Ok(())
     }
-    draw_axis(page, scale, Corner { left, top: bottom })?;
-    Ok(())
-}
-
-// Draws the lanes, one below the other.
-fn put_lanes(
-    alloc: Global,
-    page: &mut Page,
-    scale: &Scale,
-    left: u32,
-    lanes: &[Lane],
-) -> Result<(), Memory>
-    requires room { length lanes.now ≤ MOST_LANES }
-    requires beside { 12 ≤ left }
-    ensures { OnOk result (page.new ≡ page.old ++ stacked (place_by scale.now) (tells_parts lanes.now) left 56 lanes.now) }
-{
-    put_each_lane(
-        alloc,
-        page,
-        scale,
-        left,
-        lanes,
-        column_count(lanes) <= TELLING_COLUMNS,
-    )
 }
 
 // Draws the lanes, one below the other; their parts tell what they are, where that is asked for.
-fn put_each_lane(
-    alloc: Global,
+fn put_lanes(
     page: &mut Page,
     scale: &Scale,
     left: u32,
@@ -344,10 +324,17 @@ fn put_each_lane(
 {
     let mut top = LANES_TOP;
     for lane in lanes {
-        draw_lane(alloc, page, scale, Corner { left, top }, lane, tells)?;
+        draw_lane(page, scale, Corner { left, top }, lane, tells)?;
         top += lane.height();
     }
     Ok(())
+}
+
+// Do the parts of these lanes tell what they are?
+fn tells_parts(lanes: &[Lane]) -> bool
+    ensures { result ≡ tells_parts lanes.now }
+{
+    column_count(lanes) <= TELLING_COLUMNS
 }
 
 // How many columns the lanes have together, as far as they are counted.
@@ -356,7 +343,7 @@ fn column_count(lanes: &[Lane]) -> usize
 {
     let mut count = 0usize;
     for lane in lanes {
-        count = count.saturating_add(lane.columns());
+        count = count.saturating_add(lane.columns().len());
     }
     count
 }
@@ -364,18 +351,12 @@ fn column_count(lanes: &[Lane]) -> usize
 fn put_inputs(page: &mut Page, top: u32, inputs: &Inputs) -> Result<(), Memory>
     ensures { OnOk result (page.new ≡ page.old ++ inputs_group top inputs.now.text) }
 {
-    page.put(&[
-        Piece::Raw(b"<g class=\"notes\" transform=\"translate(0 "),
-        Piece::Number(top),
-        Piece::Raw(b")\">\n"),
-        Piece::Raw(inputs.text.bytes()),
-        Piece::Raw(b"</g>\n"),
-    ])?;
-    Ok(())
+    page.fill(INPUTS, &[Number(top), Raw(inputs.text.bytes())])
 }
 
 // Draws the tables side by side.
 fn put_tables(page: &mut Page, top: u32, tables: &Tables) -> Result<(), Memory>
+    requires { HaveRoom tables.now }
     ensures { OnOk result (page.new ≡ page.old
         ++ tables_text top tables.now.agents.rows.items tables.now.variables.rows.items tables.now.streams.rows.items) }
 {

@@ -1,15 +1,15 @@
 //! The columns of the lanes of variables, or of streams.
 
-ghost use Rattle.std.specs.Prelude.{◌≡◌, ◌<◌, ◌++◌, [], ◌∷◌, ℕ, Bool, true, IfOk, List, OnOk, bytes_eq, cond, get_or, length, map, replicate, set};
+ghost use Rattle.std.specs.Prelude.{◌≡◌, ◌<◌, [], ◌∷◌, ℕ, Bool, true, IfOk, List, OnOk, bytes_eq, cond, get_or, length, map, replicate};
 ghost use Rattle.std.specs.List.{list_any};
 ghost use Rattle.psy_draw.specs.ByName.{AddsAt, AreOfEach};
-ghost use Rattle.psy_draw.specs.Columns.{AddsValues, Dated, Keeps, dated, is_there, is_there_still};
+ghost use Rattle.psy_draw.specs.Columns.{Dated, Keeps, dated, is_there, is_there_still, rule};
 ghost use Rattle.psy_draw.specs.Lanes.{messages_within, values_within};
 ghost use Rattle.psy_draw.specs.Scales.{place_by};
 ghost use Rattle.psy_draw.specs.Told.{values_of};
 
 use crate::column::Column;
-use crate::columns::{add_message, add_value};
+use crate::columns::add_told;
 use crate::firsts::Firsts;
 use crate::names::Names;
 use crate::scale::Scale;
@@ -60,19 +60,25 @@ impl<'a> Series<'a> {
             (λ name. values_within scale.now.from scale.now.to name note.now) self.old self.new) }
     {
         match value_within(note, scale) {
-            Some(said) => self.add_value_of(scale, said.name, said.told),
+            Some(said) => self.add_told(true, scale, said.name, said.told),
             None => Ok(()),
         }
     }
 
-    // Adds a value of a variable, where this is there.
-    fn add_value_of(&mut self, scale: &Scale, name: &[u8], told: Told) -> Result<(), Memory>
+    // Adds a value, where its name is there.
+    fn add_told(
+        &mut self,
+        of_variable: bool,
+        scale: &Scale,
+        name: &[u8],
+        told: Told,
+    ) -> Result<(), Memory>
         ensures names { self.new.names ≡ self.old.names }
-        ensures added { OnOk result (AddsEach (place_by scale.now) (is_there_still (place_by scale.now))
+        ensures added { OnOk result (AddsEach (place_by scale.now) (rule of_variable (place_by scale.now))
             (λ other. cond (bytes_eq name.now other) (dated told.date told.value ∷ []) []) self.old self.new) }
     {
         match self.names.place(name) {
-            Some(place) => add_value_at(self.columns.as_mut_slice(), place, scale, told),
+            Some(place) => add_at(self.columns.as_mut_slice(), place, of_variable, scale, told),
             None => Ok(()),
         }
     }
@@ -84,19 +90,7 @@ impl<'a> Series<'a> {
             (λ name. messages_within scale.now.from scale.now.to name note.now) self.old self.new) }
     {
         match message_within(note, scale) {
-            Some(said) => self.add_message_of(scale, said.name, said.told),
-            None => Ok(()),
-        }
-    }
-
-    // Adds a message of a stream, where this is there.
-    fn add_message_of(&mut self, scale: &Scale, name: &[u8], told: Told) -> Result<(), Memory>
-        ensures names { self.new.names ≡ self.old.names }
-        ensures added { OnOk result (AddsEach (place_by scale.now) (is_there (place_by scale.now))
-            (λ other. cond (bytes_eq name.now other) (dated told.date told.value ∷ []) []) self.old self.new) }
-    {
-        match self.names.place(name) {
-            Some(place) => add_message_at(self.columns.as_mut_slice(), place, scale, told),
+            Some(said) => self.add_told(false, scale, said.name, said.told),
             None => Ok(()),
         }
     }
@@ -158,7 +152,7 @@ fn with_value(columns: Vec<Column>, scale: &Scale, told: Told) -> Result<Vec<Col
         → Keeps (place_by scale.now) (is_there_still (place_by scale.now)) (dated told.date told.value ∷ []) new.items) }
 {
     let mut columns = columns;
-    add_value(&mut columns, scale, told.date, told.value)?;
+    add_told(&mut columns, true, scale, told)?;
     Ok(columns)
 }
 
@@ -173,36 +167,20 @@ fn no_columns(alloc: Global, count: usize) -> Result<Vec<Vec<Column>>, Memory>
     Ok(columns)
 }
 
-// Adds a value of a variable to the columns at a place.
-fn add_value_at(
+// Adds a value to the columns at a place.
+fn add_at(
     columns: &mut [Vec<Column>],
     place: usize,
+    of_variable: bool,
     scale: &Scale,
     told: Told,
 ) -> Result<(), Memory>
     requires { place < length columns.old }
     ensures as_many { length columns.new ≡ length columns.old }
-    ensures added { OnOk result (AddsAt (place_by scale.now) (is_there_still (place_by scale.now)) place (dated told.date told.value)
+    ensures added { OnOk result (AddsAt (place_by scale.now) (rule of_variable (place_by scale.now)) place (dated told.date told.value)
         (map (λ c. c.items) columns.old) (map (λ c. c.items) columns.new)) }
 {
     let lane = &mut columns[place];
-    add_value(lane, scale, told.date, told.value)?;
-    Ok(())
-}
-
-// Adds a message to the columns at a place.
-fn add_message_at(
-    columns: &mut [Vec<Column>],
-    place: usize,
-    scale: &Scale,
-    told: Told,
-) -> Result<(), Memory>
-    requires { place < length columns.old }
-    ensures as_many { length columns.new ≡ length columns.old }
-    ensures added { OnOk result (AddsAt (place_by scale.now) (is_there (place_by scale.now)) place (dated told.date told.value)
-        (map (λ c. c.items) columns.old) (map (λ c. c.items) columns.new)) }
-{
-    let lane = &mut columns[place];
-    add_message(lane, scale, told.date, told.value)?;
+    add_told(lane, of_variable, scale, told)?;
     Ok(())
 }

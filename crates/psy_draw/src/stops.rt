@@ -1,15 +1,16 @@
 //! The lane of an agent that was stopped.
 
-ghost use Rattle.std.specs.Prelude.{◌≡◌, ◌≤◌, ◌++◌, OnOk, length};
+ghost use Rattle.std.specs.Prelude.{◌≡◌, ◌≤◌, ◌++◌, OnOk};
 ghost use Rattle.psy_draw.specs.Labels.{cause_of};
-ghost use Rattle.psy_draw.specs.Stops.{beside_mark, beside_text, silence, stop_inside, stop_mark, stop_text, stop_width};
+ghost use Rattle.psy_draw.specs.Stops.{beside_mark, beside_text, stop_inside, stop_text, stop_width};
 
 use crate::labels::{Extent, digits_width, letters_width};
-use crate::page::Page;
-use crate::piece::Piece;
+use crate::markup::put_dashes;
 use crate::scale::{PLOT_WIDTH, Scale};
 use psy_arith::Trap;
 use psy_base::Memory;
+use psy_page::Page;
+use psy_page::Piece::{Long, Number, Raw};
 
 /// The height of a lane.
 pub const STOP_HEIGHT: u32 = 26;
@@ -44,23 +45,21 @@ impl Stop {
     }
 }
 
+/// A mark at a place.
+pub const STOP_MARK: &[u8] = b"<path class=\"mark\" d=\"M$ 13h0\"/>\n";
+
+/// The cause of a stop and its date, beginning or ending at a place.
+pub const STOP_TEXT: &[u8] = b"<text text-anchor=\"$\" x=\"$\" y=\"17\">$ at $</text>\n";
+
+/// A dashed line from a place to another.
+pub const SILENCE: &[u8] = b"<path class=\"silence\" d=\"M$ 13H$\"/>\n";
+
 /// Draws a stop: a mark, its cause and date beside it, and a dashed line up to the end.
 pub fn draw_stop(page: &mut Page, stop: &Stop) -> Result<(), Memory>
     ensures { OnOk result (page.new ≡ page.old ++ stop_inside stop.now.x stop.now.date stop.now.trap) }
 {
-    put_mark(page, stop.x)?;
-    put_cause(page, stop)?;
-    Ok(())
-}
-
-fn put_mark(page: &mut Page, x: u32) -> Result<(), Memory>
-    ensures { OnOk result (page.new ≡ page.old ++ stop_mark x) }
-{
-    page.put(&[
-        Piece::Raw(b"<path class=\"mark\" d=\"M"),
-        Piece::Number(x),
-        Piece::Raw(b" 13h0\"/>\n"),
-    ])
+    page.fill(STOP_MARK, &[Number(stop.x)])?;
+    put_cause(page, stop)
 }
 
 // Writes the cause at the right of the mark and then the dashed line, or at its left where there is no room.
@@ -89,39 +88,22 @@ fn put_beside(page: &mut Page, anchor: &[u8], x: u32, from: u32, stop: &Stop) ->
     ensures { OnOk result (page.new ≡ page.old ++ beside_text anchor.now x from stop.now.date stop.now.trap) }
 {
     put_text(page, anchor, x, stop)?;
-    put_dashes(page, from)?;
-    Ok(())
+    put_dashes(page, from, SILENCE, &[Number(from), Number(PLOT_WIDTH)])
 }
 
+// Writes the cause and the date at a place.
 fn put_text(page: &mut Page, anchor: &[u8], x: u32, stop: &Stop) -> Result<(), Memory>
     ensures { OnOk result (page.new ≡ page.old ++ stop_text anchor.now x stop.now.date stop.now.trap) }
 {
-    page.put(&[
-        Piece::Raw(b"<text text-anchor=\""),
-        Piece::Raw(anchor),
-        Piece::Raw(b"\" x=\""),
-        Piece::Number(x),
-        Piece::Raw(b"\" y=\"17\">"),
-        Piece::Raw(cause_of(stop.trap)),
-        Piece::Raw(b" at "),
-        Piece::Long(stop.date),
-        Piece::Raw(b"</text>\n"),
-    ])
-}
-
-fn put_dashes(page: &mut Page, from: u32) -> Result<(), Memory>
-    ensures { OnOk result (page.new ≡ page.old ++ silence from) }
-{
-    if PLOT_WIDTH <= from {
-        return Ok(());
-    }
-    page.put(&[
-        Piece::Raw(b"<path class=\"silence\" d=\"M"),
-        Piece::Number(from),
-        Piece::Raw(b" 13H"),
-        Piece::Number(PLOT_WIDTH),
-        Piece::Raw(b"\"/>\n"),
-    ])
+    page.fill(
+        STOP_TEXT,
+        &[
+            Raw(anchor),
+            Number(x),
+            Raw(cause_of(stop.trap)),
+            Long(stop.date),
+        ],
+    )
 }
 
 // The words of a cause.

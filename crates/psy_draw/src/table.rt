@@ -1,21 +1,20 @@
 //! A table of the summary.
 
-ghost use Rattle.std.specs.Prelude.{◌≡◌, ◌≤◌, ◌<◌, ◌+◌, ◌++◌, [], ◌∷◌, Err, OnOk, decimal, length, max};
+ghost use Rattle.std.specs.Prelude.{◌≡◌, ◌≤◌, ◌++◌, [], ◌∷◌, OnOk, decimal, length, max};
 ghost use Rattle.psy_draw.specs.declared.room.TheConstants.{MOST_ROWS};
-ghost use Rattle.psy_draw.specs.declared.table.TheConstants.{HEADS};
 ghost use Rattle.psy_log.specs.Forms.{number_or_dash};
 ghost use Rattle.psy_draw.specs.Places.{width_of};
-ghost use Rattle.psy_draw.specs.Showing.{rows_text};
-ghost use Rattle.psy_draw.specs.Summaries.{first_end, first_letters, full_table, heads_text, name_letters, second_end, second_letters};
-ghost use Rattle.psy_draw.specs.Summaries.{table_head, table_height, table_text, table_width, titles_of};
+ghost use Rattle.psy_draw.specs.Summaries.{first_end, first_letters, full_table, name_letters, second_end, second_letters};
+ghost use Rattle.psy_draw.specs.Summaries.{table_height, table_text, table_width, titles_of};
 
 use crate::labels::digits_of;
 use crate::layout::{Corner, TABLE_LETTER, width_of};
-use crate::page::Page;
-use crate::piece::Piece;
-use crate::room::{MOST_ROWS, RoomFault};
+use crate::markup::GROUP_END;
+use crate::room::MOST_ROWS;
 use crate::row::{Ends, Row, put_row};
 use psy_base::Memory;
+use psy_page::Page;
+use psy_page::Piece::{Number, Text};
 use std::alloc::Global;
 
 /// The height of a row.
@@ -26,6 +25,12 @@ const HEADS: u32 = 12;
 
 // What stays free between two columns.
 const COLUMN_GAP: u32 = 22;
+
+/// The group of a table begins, with the line of its heads, of which two end at places.
+pub const TABLE: &[u8] = b"<g class=\"table\" transform=\"translate($ $)\">
+<path class=\"rule\" d=\"M0 17H$\"/>
+<text class=\"head\" y=\"12\">$<tspan class=\"number\" x=\"$\">$</tspan><tspan class=\"number\" x=\"$\">$</tspan></text>
+";
 
 /// The heads of the three columns of a table.
 #[derive(Clone, Copy, Debug)]
@@ -46,7 +51,7 @@ struct Letters {
 impl Letters {
     // As many as these and a row have.
     fn with(self, row: &Row) -> Letters
-        ensures name { result.name ≡ max self.name (length row.now.name.now) }
+        ensures name { result.name ≡ max self.name (length row.now.name) }
         ensures first { result.first ≡ max self.first (length (decimal row.now.first)) }
         ensures second { result.second ≡ max self.second (length (number_or_dash row.now.second)) }
     {
@@ -64,7 +69,6 @@ pub struct Table<'a> {
     pub heads: Heads,
     pub rows: Vec<Row<'a>>,
     letters: Letters,
-    ghost room: { length rows.items ≤ MOST_ROWS },
     ghost names: { letters.name ≡ name_letters (titles_of heads) rows.items },
     ghost firsts: { letters.first ≡ first_letters (titles_of heads) rows.items },
     ghost seconds: { letters.second ≡ second_letters (titles_of heads) rows.items },
@@ -87,15 +91,11 @@ impl<'a> Table<'a> {
         }
     }
 
-    /// Adds a row, where it has room.
-    pub fn add(&mut self, row: Row<'a>) -> Result<(), RoomFault>
+    /// Adds a row.
+    pub fn add(&mut self, row: Row<'a>) -> Result<(), Memory>
         ensures rows { OnOk result (self.new.rows.items ≡ self.old.rows.items ++ row.entry ∷ []) }
         ensures heads { titles_of self.new.heads ≡ titles_of self.old.heads }
-        ensures full { result ≡ Err RoomFault.Full → MOST_ROWS < length self.old.rows.items + 1 }
     {
-        if MOST_ROWS <= self.rows.len() {
-            return Err(RoomFault::Full);
-        }
         let letters = self.letters.with(&row);
         self.rows.push(row)?;
         self.letters = letters;
@@ -115,6 +115,7 @@ impl<'a> Table<'a> {
 
     /// Its height, and 0 where it has no rows.
     pub fn height(&self) -> u32
+        requires { length self.now.rows.items ≤ MOST_ROWS }
         ensures high { result ≡ table_height self.now.rows.items }
         ensures low { result ≤ 100000 }
     {
@@ -140,69 +141,45 @@ impl<'a> Table<'a> {
 
     /// Draws it, or nothing where it has no rows.
     pub fn draw(&self, page: &mut Page, corner: Corner) -> Result<(), Memory>
+        requires { length self.now.rows.items ≤ MOST_ROWS }
         ensures { OnOk result (page.new ≡ page.old ++ table_text corner.left corner.top (titles_of self.now.heads) self.now.rows.items) }
     {
         if self.rows.is_empty() {
             return Ok(());
         }
-        self.put_table(page, corner)
-    }
-
-    fn put_table(&self, page: &mut Page, corner: Corner) -> Result<(), Memory>
-        ensures { OnOk result (page.new ≡ page.old ++ full_table corner.left corner.top (titles_of self.now.heads) self.now.rows.items) }
-    {
-        put_table_head(page, corner)?;
-        let ends = self.ends();
-        put_heads(page, ends, self.heads)?;
-        put_rows(page, ends, self.rows.as_slice())?;
-        page.put(&[Piece::Raw(b"</g>\n")])?;
-        Ok(())
+        put_table(page, corner, self.heads, self.ends(), self.rows.as_slice())
     }
 }
 
-// Adds rows, one below the other, the first of them below the heads.
-fn put_rows(page: &mut Page, ends: Ends, rows: &[Row]) -> Result<(), Memory>
+fn put_table(
+    page: &mut Page,
+    corner: Corner,
+    heads: Heads,
+    ends: Ends,
+    rows: &[Row],
+) -> Result<(), Memory>
     requires { length rows.now ≤ MOST_ROWS }
-    ensures { OnOk result (page.new ≡ page.old ++ rows_text HEADS ends.first ends.second rows.now) }
+    ensures { OnOk result (page.new ≡ page.old ++ full_table corner.left corner.top (titles_of heads) ends.first ends.second rows.now) }
 {
+    page.fill(
+        TABLE,
+        &[
+            Number(corner.left),
+            Number(corner.top),
+            Number(ends.second),
+            Text(heads.name),
+            Number(ends.first),
+            Text(heads.first),
+            Number(ends.second),
+            Text(heads.second),
+        ],
+    )?;
     let mut y = HEADS;
     'rows: for row in rows {
         y += ROW_HEIGHT;
         put_row(page, y, ends, row)?;
     }
-    Ok(())
-}
-
-fn put_table_head(page: &mut Page, corner: Corner) -> Result<(), Memory>
-    ensures { OnOk result (page.new ≡ page.old ++ table_head corner.left corner.top) }
-{
-    page.put(&[
-        Piece::Raw(b"<g class=\"table\" transform=\"translate("),
-        Piece::Number(corner.left),
-        Piece::Raw(b" "),
-        Piece::Number(corner.top),
-        Piece::Raw(b")\">\n"),
-    ])
-}
-
-fn put_heads(page: &mut Page, ends: Ends, heads: Heads) -> Result<(), Memory>
-    ensures { OnOk result (page.new ≡ page.old ++ heads_text ends.first ends.second (titles_of heads)) }
-{
-    page.put(&[
-        Piece::Raw(b"<path class=\"rule\" d=\"M0 17H"),
-        Piece::Number(ends.second),
-        Piece::Raw(b"\"/>\n<text class=\"head\" y=\"12\">"),
-        Piece::Text(heads.name),
-        Piece::Raw(b"<tspan class=\"number\" x=\""),
-        Piece::Number(ends.first),
-        Piece::Raw(b"\">"),
-        Piece::Text(heads.first),
-        Piece::Raw(b"</tspan><tspan class=\"number\" x=\""),
-        Piece::Number(ends.second),
-        Piece::Raw(b"\">"),
-        Piece::Text(heads.second),
-        Piece::Raw(b"</tspan></text>\n"),
-    ])
+    page.add(GROUP_END)
 }
 
 fn second_letters(second: Option<u64>) -> usize

@@ -1,15 +1,16 @@
 //! The tables of the summary.
 
-ghost use Rattle.std.specs.Prelude.{◌≡◌, ◌≤◌, ◌++◌, Err, IfOk, OnOk};
+ghost use Rattle.std.specs.Prelude.{◌≡◌, ◌≤◌, ◌++◌, true, false, IfOk, OnOk};
 ghost use Rattle.std.specs.List.{flat_map};
 ghost use Rattle.psy_draw.specs.Showing.{agent_rows, stream_rows, variable_rows};
 ghost use Rattle.psy_draw.specs.Summaries.{HasManyRows, agent_titles, stream_titles, tables_height, tables_width, titles_of, variable_titles};
 
 use crate::frame::TABLE_GAP;
 use crate::layout::MARGIN;
-use crate::room::RoomFault;
+use crate::room::MOST_ROWS;
 use crate::row::Row;
 use crate::table::{Heads, Table};
+use psy_base::Memory;
 use psy_log::Note;
 use std::alloc::Global;
 
@@ -25,13 +26,13 @@ pub struct Tables<'a> {
 }
 
 impl<'a> Tables<'a> {
+    ghost use Rattle.psy_draw.specs.Frames.{HaveRoom};
+
     /// The tables of the summary among these notes.
-    pub fn of(alloc: Global, notes: &[Note<'a>]) -> Result<Tables<'a>, RoomFault>
+    pub fn of(alloc: Global, notes: &[Note<'a>]) -> Result<Tables<'a>, Memory>
         ensures agents { IfOk result (λ tables. tables.agents.rows.items ≡ flat_map agent_rows notes.now) }
         ensures variables { IfOk result (λ tables. tables.variables.rows.items ≡ flat_map variable_rows notes.now) }
         ensures streams { IfOk result (λ tables. tables.streams.rows.items ≡ flat_map stream_rows notes.now) }
-        ensures full { result ≡ Err RoomFault.Full
-            → HasManyRows (flat_map agent_rows notes.now) (flat_map variable_rows notes.now) (flat_map stream_rows notes.now) }
     {
         let mut tables = Tables {
             agents: Table::new(
@@ -60,19 +61,15 @@ impl<'a> Tables<'a> {
             ),
         };
         for note in notes {
-            if let Err(fault) = tables.add(*note) {
-                return Err(fault);
-            }
+            tables.add(*note)?;
         }
         Ok(tables)
     }
 
-    fn add(&mut self, note: Note<'a>) -> Result<(), RoomFault>
+    fn add(&mut self, note: Note<'a>) -> Result<(), Memory>
         ensures agents { OnOk result (self.new.agents.rows.items ≡ self.old.agents.rows.items ++ agent_rows note.entry) }
         ensures variables { OnOk result (self.new.variables.rows.items ≡ self.old.variables.rows.items ++ variable_rows note.entry) }
         ensures streams { OnOk result (self.new.streams.rows.items ≡ self.old.streams.rows.items ++ stream_rows note.entry) }
-        ensures full { result ≡ Err RoomFault.Full → HasManyRows (self.old.agents.rows.items ++ agent_rows note.entry)
-            (self.old.variables.rows.items ++ variable_rows note.entry) (self.old.streams.rows.items ++ stream_rows note.entry) }
     {
         match note {
             Note::AgentEnd {
@@ -114,8 +111,19 @@ impl<'a> Tables<'a> {
             + 2 * TABLE_GAP
     }
 
+    /// Has one of them more rows than have room?
+    pub fn is_crowded(&self) -> bool
+        ensures many { result ≡ true → HasManyRows self.now.agents.rows.items self.now.variables.rows.items self.now.streams.rows.items }
+        ensures few { result ≡ false → HaveRoom self.now }
+    {
+        MOST_ROWS < self.agents.rows.len()
+            || MOST_ROWS < self.variables.rows.len()
+            || MOST_ROWS < self.streams.rows.len()
+    }
+
     /// The height of the highest.
     pub fn height(&self) -> u32
+        requires { HaveRoom self.now }
         ensures high { result ≡ tables_height self.now.agents.rows.items self.now.variables.rows.items self.now.streams.rows.items }
         ensures low { result ≤ 100000 }
     {

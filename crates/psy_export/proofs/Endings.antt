@@ -1,11 +1,11 @@
 -- How an export ends, by what was said and written.
-use Rattle.std.proofs.Common.{◌≡◌, ◌≢◌, ◌∙◌, ◌⊎◌, inl, inr, refl, sym, ap, subst, ℕ, List, [], Option, Some, None, Ok}
+use Rattle.std.proofs.Common.{◌≡◌, ◌≢◌, inl, inr, refl, sym, subst, ℕ, List, [], Option, Some, None}
 use Rattle.psy_door.specs.Faults.{Rose}
 use Rattle.psy_door.specs.Files.{Files}
 use Rattle.psy_door.specs.Growth.{Grew, GrewByFront}
 use Rattle.psy_log.specs.declared.note.Note.{Note}
 use Rattle.psy_notes.specs.Stands.{run_begins}
-use Rattle.psy_notes.specs.Texts.{BreaksAt, IsText, text_of}
+use Rattle.psy_notes.specs.Texts.{BreaksAt, text_of}
 use Rattle.psy_passes.specs.Listing.{first_unlisted}
 use Rattle.psy_passes.specs.Logs.{IsLog}
 use Rattle.psy_passes.specs.Runs.{IsRun}
@@ -15,7 +15,7 @@ use Rattle.psy_passes.specs.declared.fault.PassFault.{PassFault}
 use Rattle.psy_passes.specs.declared.fault.PassFault.TheVariants as fault
 use Rattle.psy_export.specs.declared.forms.Format.{Format}
 use Rattle.psy_export.specs.declared.forms.Format.TheVariants as format
-use Rattle.psy_export.specs.Ending.{Ends, IsSaidOf, IsUnreadable, MayStand, Refuses, Says, answered, cut_short, left_off, may_answer, may_begin, may_miss, no_memory, status_of, unread}
+use Rattle.psy_export.specs.Ending.{Ends, IsSaidOf, IsUnreadable, Refuses, Says, answered, cut_short, left_off, may_answer, may_begin, may_miss, no_memory, status_of, unread}
 use Rattle.psy_export.specs.Exports.{Exports, IsExportFront, export_of, has_many, has_unlisted, no_run, of_log}
 use Rattle.psy_export.specs.Refusals.{unread_line}
 

@@ -15,10 +15,10 @@ broken_line name line = shown name ++ codes ":" ++ decimal line ++ codes ": from
 abbrev pub unlisted_line : List ℕ → ℕ → List ℕ
 unlisted_line name line = shown name ++ codes ":" ++ decimal line ++ codes ": the summary doesn't list this name\n"
 
--- The text has more lines than so many
-abbrev pub more_line : List ℕ → ℕ → List ℕ
-more_line name most = shown name ++ codes ": this file has more than " ++ decimal most ++ codes " lines\n"
+-- The file has more than so many of what is counted
+abbrev pub more_line : List ℕ → ℕ → List ℕ → List ℕ
+more_line name most counted = shown name ++ codes ": this file has more than " ++ decimal most ++ codes " " ++ counted ++ codes "\n"
 
 -- The text has more lines than a run may have
 abbrev pub many_line : List ℕ → List ℕ
-many_line name = more_line name LINES
+many_line name = more_line name LINES (codes "lines")

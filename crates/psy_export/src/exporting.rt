@@ -85,8 +85,8 @@ pub fn refusal(alloc: Global, name: &str, fault: PassFault) -> Result<Said, Memo
     }
 }
 
-// Writes a log whose end and summary have these lines.
-fn write_long<R: Reel, S: Sink>(
+/// Writes a log whose end and summary have these lines.
+pub fn write_long<R: Reel, S: Sink>(
     alloc: Global,
     format: Format,
     reel: &mut R,

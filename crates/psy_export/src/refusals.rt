@@ -50,12 +50,17 @@ pub fn unlisted_line(alloc: Global, name: &[u8], line: usize) -> Result<Vec<u8>,
 pub fn many_line(alloc: Global, name: &[u8]) -> Result<Vec<u8>, AllocError>
     ensures { IfOk result (λ line. line.items ≡ many_line name.now) }
 {
-    more_line(alloc, name, LINES)
+    more_line(alloc, name, LINES, b"lines")
 }
 
-// The text has more lines than so many.
-fn more_line(alloc: Global, name: &[u8], most: usize) -> Result<Vec<u8>, AllocError>
-    ensures { IfOk result (λ line. line.items ≡ more_line name.now most) }
+/// The file has more than so many of what is counted.
+pub fn more_line(
+    alloc: Global,
+    name: &[u8],
+    most: usize,
+    counted: &[u8],
+) -> Result<Vec<u8>, AllocError>
+    ensures { IfOk result (λ line. line.items ≡ more_line name.now most counted.now) }
 {
     let mut digits = Buffer::new();
     let most = digits.format(most as u64).as_bytes();
@@ -66,7 +71,9 @@ fn more_line(alloc: Global, name: &[u8], most: usize) -> Result<Vec<u8>, AllocEr
             name.as_slice(),
             b": this file has more than ",
             most,
-            b" lines\n",
+            b" ",
+            counted,
+            b"\n",
         ],
     )
 }

@@ -15,7 +15,9 @@ use Rattle.psy_tree.proofs.lemmas.Among.{Among, among, among_left, among_right, 
 use Rattle.psy_meaning.specs.Sendings.{sendings_in}
 use Rattle.psy_meaning.specs.Ways.{Sending}
 use Rattle.psy_history.specs.Feeding.{Feeds, pasts_in, by_variable, by_stream}
-use Rattle.psy_feed.specs.Arrows.{Arrow, Carried, Source, Agent, Input, Variable, Stream, arrows, look, look_arrow, look_arrows, looks, looks_of}
+use Rattle.psy_feed.specs.declared.text.Carried.{Carried}
+use Rattle.psy_feed.specs.declared.text.Carried.TheVariants.{Variable, Stream}
+use Rattle.psy_feed.specs.Arrows.{Arrow, Source, Agent, Input, arrows, look, look_arrow, look_arrows, looks, looks_of}
 use Rattle.psy_feed.specs.Arrows.{send, send_arrow, send_arrows, sends, sends_of, source_by}
 use Rattle.psy_feed.proofs.Apart.{Apart, all_pairs, apart_append, apart_range}
 use Rattle.psy_feed.proofs.lemmas.Ranges.{among_below, among_cases, below_from}

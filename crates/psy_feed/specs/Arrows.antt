@@ -7,16 +7,13 @@ use Rattle.psy_tree.specs.Parts.{agent_at, stream_at, variable_at}
 use Rattle.psy_meaning.specs.Sendings.{sendings_in}
 use Rattle.psy_meaning.specs.Ways.{Sending}
 use Rattle.psy_history.specs.Feeding.{pasts_in}
+use Rattle.psy_feed.specs.declared.text.Carried.{Carried}
+use Rattle.psy_feed.specs.declared.text.Carried.TheVariants.{Variable, Stream}
 
 -- Where an arrow begins: at an agent, or at an input, by its number among the variables
 pub data Source : Type 0 where
   Agent : (agent : ℕ) → Source
   Input : (variable : ℕ) → Source
-
--- What goes along an arrow: what a variable publishes, or the messages of a stream
-pub data Carried : Type 0 where
-  Variable : (variable : ℕ) → Carried
-  Stream : (stream : ℕ) → Carried
 
 -- An arrow to an agent
 pub record Arrow : Type 0 where
@@ -60,6 +57,14 @@ send_arrow unit stream agent = if sends stream (sendings_in (agent_at unit agent
 -- The arrows of a stream, by the numbers of the agents
 abbrev pub send_arrows : Whole → ℕ → List Arrow
 send_arrows unit stream = flat_map (send_arrow unit stream) (range_with_len 0 (length unit.agents))
+
+-- The same of what goes along an arrow
+abbrev pub arrow_at : Whole → Carried → ℕ → List Arrow
+arrow_at unit (Variable variable) agent = look_arrow unit variable agent
+arrow_at unit (Stream stream) agent = send_arrow unit stream agent
+
+abbrev pub arrows_of : Whole → Carried → List Arrow
+arrows_of unit carried = flat_map (arrow_at unit carried) (range_with_len 0 (length unit.agents))
 
 -- The arrows of all variables, in the order of the text
 abbrev pub looks_of : Whole → List Arrow

@@ -1,5 +1,4 @@
 -- The lemmas of this crate, by subject.
-mod Behind
 mod Faults
 mod Looking
 mod Names

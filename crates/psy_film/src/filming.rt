@@ -14,7 +14,7 @@ ghost use Rattle.psy_film.specs.Films.{IsFilm, IsLogOf};
 ghost use Rattle.psy_film.specs.Sources.{foreign_by};
 ghost use Rattle.psy_match.specs.Silences.{AreStopped, Owning};
 
-use crate::adding::{add_gathered, known_with};
+use crate::adding::known_with;
 use crate::checking::check;
 use crate::counting::Counting;
 use crate::fault::FilmFault;
@@ -276,7 +276,7 @@ fn gathered<'a, 's, R: Reel>(
         silencing,
         ..
     } = now;
-    if let Err(Memory) = add_gathered(&mut gathering, by.stops, by.more) {
+    if let Err(Memory) = gathering.add_all(by.stops, by.more) {
         return Err(PassFault::Memory);
     }
     Ok(Filled {

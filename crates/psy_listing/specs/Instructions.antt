@@ -1,5 +1,5 @@
 -- The text of each instruction: its name, and what it names. Places and cells go by their numbers; variables, streams, clocks and functions by their names.
-use Rattle.std.specs.Prelude.{ℕ, List, [], ◌++◌, Option, None, Some, codes, decimal, get_or, slice_get}
+use Rattle.std.specs.Prelude.{ℕ, List, [], ◌∷◌, ◌++◌, Option, None, Some, codes, decimal, get_or, slice_get}
 use Rattle.std.specs.Fmt.{signed_decimal}
 use mir.Val.{bits}
 use Rattle.psy_arith.specs.declared.operators.Op1.{Op1}
@@ -11,6 +11,7 @@ use Rattle.psy_arith.specs.declared.width.Width.TheVariants as width
 use Rattle.psy_arith.specs.Widths.{of_type}
 use Rattle.psy_code.specs.declared.instr.Instr.{Instr}
 use Rattle.psy_code.specs.declared.instr.Instr.TheVariants as instr
+use Rattle.psy_page.specs.Templates.{fill}
 use Rattle.psy_tree.specs.declared.unit.FunctionDecl.{FunctionDecl}
 use Rattle.psy_tree.specs.declared.unit.Unit.{Unit as Whole}
 use Rattle.psy_tree.specs.Parts.{stream_at, variable_at}
@@ -43,7 +44,7 @@ unary_name one.Not = codes "not"
 -- Behind the name of an operator stands its width, where that isn't 32.
 abbrev pub width_text : Width → List ℕ
 width_text width.W32 = []
-width_text at = codes " " ++ decimal (bits (of_type at))
+width_text at = fill (codes " $") (decimal (bits (of_type at)) ∷ [])
 
 -- `not` is one instruction for all widths.
 abbrev pub unary_text : Op1 → Width → List ℕ
@@ -61,33 +62,29 @@ name_in (Some function) = function.name
 abbrev pub function_name : Whole → ℕ → List ℕ
 function_name unit function = name_in (slice_get unit.functions function)
 
--- Two numbers behind a name
-abbrev pub two_text : List ℕ → ℕ → ℕ → List ℕ
-two_text name first second = name ++ decimal first ++ codes " " ++ decimal second
-
 abbrev pub instr_text : Whole → Instr → List ℕ
-instr_text unit (instr.Push number) = codes "push " ++ signed_decimal number
-instr_text unit (instr.Load cell) = codes "load " ++ decimal cell
-instr_text unit (instr.Store cell) = codes "store " ++ decimal cell
-instr_text unit (instr.LoadCell base cells) = two_text (codes "load-cell ") base cells
-instr_text unit (instr.StoreCell base cells) = two_text (codes "store-cell ") base cells
-instr_text unit (instr.LoadCopy variable) = codes "load-copy " ++ (variable_at unit variable).name
-instr_text unit (instr.StoreCopy variable) = codes "store-copy " ++ (variable_at unit variable).name
-instr_text unit (instr.Past variable back) = codes "past " ++ (variable_at unit variable).name ++ codes " " ++ decimal back
-instr_text unit (instr.Ready stream) = codes "ready " ++ (stream_at unit stream).name
-instr_text unit (instr.Take stream) = codes "take " ++ (stream_at unit stream).name
+instr_text unit (instr.Push number) = fill (codes "push $") (signed_decimal number ∷ [])
+instr_text unit (instr.Load cell) = fill (codes "load $") (decimal cell ∷ [])
+instr_text unit (instr.Store cell) = fill (codes "store $") (decimal cell ∷ [])
+instr_text unit (instr.LoadCell base cells) = fill (codes "load-cell $ $") (decimal base ∷ decimal cells ∷ [])
+instr_text unit (instr.StoreCell base cells) = fill (codes "store-cell $ $") (decimal base ∷ decimal cells ∷ [])
+instr_text unit (instr.LoadCopy variable) = fill (codes "load-copy $") ((variable_at unit variable).name ∷ [])
+instr_text unit (instr.StoreCopy variable) = fill (codes "store-copy $") ((variable_at unit variable).name ∷ [])
+instr_text unit (instr.Past variable back) = fill (codes "past $ $") ((variable_at unit variable).name ∷ decimal back ∷ [])
+instr_text unit (instr.Ready stream) = fill (codes "ready $") ((stream_at unit stream).name ∷ [])
+instr_text unit (instr.Take stream) = fill (codes "take $") ((stream_at unit stream).name ∷ [])
 instr_text unit (instr.Send stream after clock) =
-    codes "send " ++ (stream_at unit stream).name ++ codes " after " ++ decimal after ++ codes " on " ++ clock_name unit clock
-instr_text unit (instr.Jump to) = codes "jump " ++ decimal to
-instr_text unit (instr.JumpZero to) = codes "jump-zero " ++ decimal to
-instr_text unit (instr.AndTest to) = codes "and-test " ++ decimal to
-instr_text unit (instr.OrTest to) = codes "or-test " ++ decimal to
+    fill (codes "send $ after $ on $") ((stream_at unit stream).name ∷ decimal after ∷ clock_name unit clock ∷ [])
+instr_text unit (instr.Jump to) = fill (codes "jump $") (decimal to ∷ [])
+instr_text unit (instr.JumpZero to) = fill (codes "jump-zero $") (decimal to ∷ [])
+instr_text unit (instr.AndTest to) = fill (codes "and-test $") (decimal to ∷ [])
+instr_text unit (instr.OrTest to) = fill (codes "or-test $") (decimal to ∷ [])
 instr_text unit instr.Truth = codes "truth"
-instr_text unit (instr.Zero counter) = codes "zero " ++ decimal counter
-instr_text unit (instr.Guard counter bound) = two_text (codes "guard ") counter bound
-instr_text unit (instr.Call function) = codes "call " ++ function_name unit function
+instr_text unit (instr.Zero counter) = fill (codes "zero $") (decimal counter ∷ [])
+instr_text unit (instr.Guard counter bound) = fill (codes "guard $ $") (decimal counter ∷ decimal bound ∷ [])
+instr_text unit (instr.Call function) = fill (codes "call $") (function_name unit function ∷ [])
 instr_text unit instr.Return = codes "return"
-instr_text unit (instr.Advance point) = codes "advance " ++ decimal point
+instr_text unit (instr.Advance point) = fill (codes "advance $") (decimal point ∷ [])
 instr_text unit (instr.Binary operator at) = binary_name operator ++ width_text at
 instr_text unit (instr.Unary operator at) = unary_text operator at
-instr_text unit (instr.Cast at) = codes "cast " ++ decimal (bits (of_type at))
+instr_text unit (instr.Cast at) = fill (codes "cast $") (decimal (bits (of_type at)) ∷ [])

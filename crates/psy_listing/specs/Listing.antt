@@ -1,18 +1,15 @@
 -- The listing of a program's code.
-use Rattle.std.specs.Prelude.{ℕ, List, [], ◌++◌, Option, None, Some, codes, decimal, flat_map, get_or, length, slice_get}
+use Rattle.std.specs.Prelude.{ℕ, List, [], ◌∷◌, ◌++◌, Option, None, Some, codes, decimal, flat_map, get_or, length, slice_get}
 use Rattle.std.specs.List.{range_with_len}
 use Rattle.psy_code.specs.declared.code.Code.{Code}
 use Rattle.psy_code.specs.declared.instr.Instr.{Instr}
 use Rattle.psy_meaning.specs.CodeWays.{agent_code_at, place_of}
+use Rattle.psy_page.specs.Templates.{fill}
 use Rattle.psy_tree.specs.declared.unit.Unit.{Unit as Whole}
 use Rattle.psy_tree.specs.Parts.{agent_at}
+use Rattle.psy_listing.specs.declared.text.TheConstants.{POINT, STEP}
 use Rattle.psy_listing.specs.Instructions.{instr_text}
 use Rattle.psy_listing.specs.Straight.{straight_way}
-
--- The head line of a point: its agent, its number, its place, and its line in the program's text
-abbrev pub head_line : List ℕ → ℕ → ℕ → List ℕ → List ℕ
-head_line agent point place line =
-    codes "agent " ++ agent ++ codes " point " ++ decimal point ++ codes " at " ++ decimal place ++ codes " line " ++ line ++ codes "\n"
 
 -- The line of a point, of lines that are told agent by agent
 abbrev pub line_of : List (List (List ℕ)) → ℕ → ℕ → List ℕ
@@ -24,17 +21,22 @@ at_text unit None = []
 at_text unit (Some i) = instr_text unit i
 
 -- The line of an instruction of a way: its number, its place, and what it is
-abbrev pub step_text : Whole → List Instr → List ℕ → ℕ → List ℕ
-step_text unit instrs places number =
-    let place = get_or places number 0 in
-    codes "  " ++ decimal number ++ codes " at " ++ decimal place ++ codes ": " ++ at_text unit (slice_get instrs place) ++ codes "\n"
+abbrev pub step_line : Whole → List Instr → ℕ → ℕ → List ℕ
+step_line unit instrs number place =
+    fill STEP.now (decimal number ∷ decimal place ∷ []) ++ at_text unit (slice_get instrs place) ++ codes "\n"
 
--- A point of an agent: its head line, and the straight way from its place, numbered from 0
-abbrev pub point_text : Whole → Code → List (List (List ℕ)) → ℕ → ℕ → List ℕ
-point_text unit code lines agent point =
-    let places = straight_way code.instrs (place_of code agent point) in
-    head_line (agent_at unit agent).name point (place_of code agent point) (line_of lines agent point)
+abbrev pub step_text : Whole → List Instr → List ℕ → ℕ → List ℕ
+step_text unit instrs places number = step_line unit instrs number (get_or places number 0)
+
+-- A point of an agent at a place: its head line, and the straight way from there, numbered from 0
+abbrev pub point_lines : Whole → Code → List (List (List ℕ)) → ℕ → ℕ → ℕ → List ℕ
+point_lines unit code lines agent point place =
+    let places = straight_way code.instrs place in
+    fill POINT.now ((agent_at unit agent).name ∷ decimal point ∷ decimal place ∷ line_of lines agent point ∷ [])
     ++ flat_map (step_text unit code.instrs places) (range_with_len 0 (length places))
+
+abbrev pub point_text : Whole → Code → List (List (List ℕ)) → ℕ → ℕ → List ℕ
+point_text unit code lines agent point = point_lines unit code lines agent point (place_of code agent point)
 
 -- The points of an agent
 abbrev pub agent_text : Whole → Code → List (List (List ℕ)) → ℕ → List ℕ

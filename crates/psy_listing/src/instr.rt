@@ -1,13 +1,13 @@
 //! The text of an instruction.
-ghost use Rattle.std.specs.Prelude.{◌≡◌, ◌++◌, OnOk};
+ghost use Rattle.std.specs.Prelude.{◌≡◌, ◌∷◌, ◌++◌, [], OnOk, decimal};
+ghost use Rattle.psy_page.specs.Templates.{fill};
 ghost use Rattle.psy_listing.specs.Instructions.{instr_text, unary_text, width_text};
 
-use crate::names::{
-    binary_word, clock_word, function_word, stream_word, unary_word, variable_word,
-};
-use crate::piece::{add_labelled, add_named, add_signed, add_two};
+use crate::names::{binary_word, clock_word, function_word, unary_word};
 use psy_arith::{Op1, Width};
 use psy_code::Instr;
+use psy_feed::{stream_name, variable_name};
+use psy_page::{Piece, fill};
 use psy_tree::Unit;
 use std::alloc::AllocError;
 
@@ -16,68 +16,64 @@ pub fn add_instr(out: &mut Vec<u8>, unit: &Unit, instr: Instr) -> Result<(), All
     ensures { OnOk result (out.new.items ≡ out.old.items ++ instr_text unit.now instr) }
 {
     match instr {
-        Instr::Push(number) => add_signed(out, b"push ", number),
-        Instr::Load(cell) => add_labelled(out, b"load ", u64::from(cell)),
-        Instr::Store(cell) => add_labelled(out, b"store ", u64::from(cell)),
-        Instr::LoadCell { base, cells } => {
-            add_two(out, b"load-cell ", u64::from(base), u64::from(cells))
+        Instr::Push(number) => fill(out, b"push $", &[Piece::Value(number)]),
+        Instr::Load(cell) => fill(out, b"load $", &[Piece::Number(cell)]),
+        Instr::Store(cell) => fill(out, b"store $", &[Piece::Number(cell)]),
+        Instr::LoadCell { base, cells } => add_two(out, b"load-cell $ $", base, cells),
+        Instr::StoreCell { base, cells } => add_two(out, b"store-cell $ $", base, cells),
+        Instr::LoadCopy(variable) => add_named(out, b"load-copy $", variable_name(unit, variable)),
+        Instr::StoreCopy(variable) => add_named(
+            out,
+            b"store-copy $",
+            variable_name(unit, variable),
+        ),
+        Instr::Past { variable, back } => {
+            let name = Piece::Raw(variable_name(unit, variable));
+            fill(out, b"past $ $", &[name, Piece::Number(back)])
         }
-        Instr::StoreCell { base, cells } => {
-            add_two(out, b"store-cell ", u64::from(base), u64::from(cells))
-        }
-        Instr::LoadCopy(variable) => add_named(out, b"load-copy ", variable_word(unit, variable)),
-        Instr::StoreCopy(variable) => add_store_copy(out, unit, variable),
-        Instr::Past { variable, back } => add_past(out, unit, variable, back),
-        Instr::Ready(stream) => add_named(out, b"ready ", stream_word(unit, stream)),
-        Instr::Take(stream) => add_named(out, b"take ", stream_word(unit, stream)),
+        Instr::Ready(stream) => add_named(out, b"ready $", stream_name(unit, stream)),
+        Instr::Take(stream) => add_named(out, b"take $", stream_name(unit, stream)),
         Instr::Send {
             stream,
             after,
             clock,
-        } => add_send(out, unit, stream, after, clock),
-        Instr::Jump(to) => add_labelled(out, b"jump ", u64::from(to)),
-        Instr::JumpZero(to) => add_labelled(out, b"jump-zero ", u64::from(to)),
-        Instr::AndTest(to) => add_labelled(out, b"and-test ", u64::from(to)),
-        Instr::OrTest(to) => add_labelled(out, b"or-test ", u64::from(to)),
-        Instr::Truth => out.extend_from_slice(b"truth"),
-        Instr::Zero(counter) => add_labelled(out, b"zero ", u64::from(counter)),
-        Instr::Guard { counter, bound } => {
-            add_two(out, b"guard ", u64::from(counter), u64::from(bound))
+        } => {
+            let name = Piece::Raw(stream_name(unit, stream));
+            let clock = Piece::Raw(clock_word(unit, clock));
+            fill(
+                out,
+                b"send $ after $ on $",
+                &[name, Piece::Number(after), clock],
+            )
         }
-        Instr::Call(function) => add_named(out, b"call ", function_word(unit, function)),
+        Instr::Jump(to) => fill(out, b"jump $", &[Piece::Number(to)]),
+        Instr::JumpZero(to) => fill(out, b"jump-zero $", &[Piece::Number(to)]),
+        Instr::AndTest(to) => fill(out, b"and-test $", &[Piece::Number(to)]),
+        Instr::OrTest(to) => fill(out, b"or-test $", &[Piece::Number(to)]),
+        Instr::Truth => out.extend_from_slice(b"truth"),
+        Instr::Zero(counter) => fill(out, b"zero $", &[Piece::Number(counter)]),
+        Instr::Guard { counter, bound } => add_two(out, b"guard $ $", counter, bound),
+        Instr::Call(function) => add_named(out, b"call $", function_word(unit, function)),
         Instr::Return => out.extend_from_slice(b"return"),
-        Instr::Advance(point) => add_labelled(out, b"advance ", u64::from(point)),
+        Instr::Advance(point) => fill(out, b"advance $", &[Piece::Number(point)]),
         Instr::Binary(operator, width) => add_at_width(out, binary_word(operator.op()), width),
         Instr::Unary(operator, width) => add_unary(out, operator, width),
-        Instr::Cast(width) => add_labelled(out, b"cast ", u64::from(width.bits())),
+        Instr::Cast(width) => fill(out, b"cast $", &[Piece::Number(width.bits())]),
     }
 }
 
-fn add_store_copy(out: &mut Vec<u8>, unit: &Unit, variable: u32) -> Result<(), AllocError>
-    ensures { OnOk result (out.new.items ≡ out.old.items ++ instr_text unit.now (Instr.StoreCopy variable)) }
+// An instruction of this form with two numbers.
+fn add_two(out: &mut Vec<u8>, form: &[u8], first: u32, second: u32) -> Result<(), AllocError>
+    ensures { OnOk result (out.new.items ≡ out.old.items ++ fill form.now (decimal first ∷ decimal second ∷ [])) }
 {
-    add_named(out, b"store-copy ", variable_word(unit, variable))
+    fill(out, form, &[Piece::Number(first), Piece::Number(second)])
 }
 
-fn add_past(out: &mut Vec<u8>, unit: &Unit, variable: u32, back: u32) -> Result<(), AllocError>
-    ensures { OnOk result (out.new.items ≡ out.old.items ++ instr_text unit.now (Instr.Past variable back)) }
+// An instruction of this form with a name.
+fn add_named(out: &mut Vec<u8>, form: &[u8], name: &[u8]) -> Result<(), AllocError>
+    ensures { OnOk result (out.new.items ≡ out.old.items ++ fill form.now (name.now ∷ [])) }
 {
-    add_named(out, b"past ", variable_word(unit, variable))?;
-    add_labelled(out, b" ", u64::from(back))
-}
-
-fn add_send(
-    out: &mut Vec<u8>,
-    unit: &Unit,
-    stream: u32,
-    after: u32,
-    clock: u32,
-) -> Result<(), AllocError>
-    ensures { OnOk result (out.new.items ≡ out.old.items ++ instr_text unit.now (Instr.Send stream after clock)) }
-{
-    add_named(out, b"send ", stream_word(unit, stream))?;
-    add_labelled(out, b" after ", u64::from(after))?;
-    add_named(out, b" on ", clock_word(unit, clock))
+    fill(out, form, &[Piece::Raw(name)])
 }
 
 // An operator with one operand; `not` is one for all widths.
@@ -97,6 +93,6 @@ fn add_at_width(out: &mut Vec<u8>, name: &[u8], width: Width) -> Result<(), Allo
     out.extend_from_slice(name)?;
     match width {
         Width::W32 => Ok(()),
-        Width::W8 | Width::W16 | Width::W64 => add_labelled(out, b" ", u64::from(width.bits())),
+        Width::W8 | Width::W16 | Width::W64 => fill(out, b" $", &[Piece::Number(width.bits())]),
     }
 }

@@ -1,6 +1,5 @@
-//! What instructions are called, and the names of what they name.
+//! What operators are called, and the names of clocks and functions.
 ghost use Rattle.std.specs.Prelude.{◌≡◌, [], get_or};
-ghost use Rattle.psy_tree.specs.Parts.{agent_at, stream_at, variable_at};
 ghost use Rattle.psy_listing.specs.Instructions.{clock_name, function_name, unary_name, binary_name};
 
 use psy_arith::{Op1, Op2};
@@ -40,36 +39,6 @@ pub fn unary_word(operator: Op1) -> &'static [u8]
         Op1::Neg => b"neg",
         Op1::Flip => b"flip",
         Op1::Not => b"not",
-    }
-}
-
-/// The name of an agent.
-pub fn agent_word(unit: &Unit, agent: usize) -> &[u8]
-    ensures { result.now ≡ (agent_at unit.now agent).name }
-{
-    match unit.agents.as_slice().get(agent) {
-        Some(agent) => agent.name.bytes(),
-        None => b"",
-    }
-}
-
-/// The name of a variable.
-pub fn variable_word(unit: &Unit, variable: u32) -> &[u8]
-    ensures { result.now ≡ (variable_at unit.now variable).name }
-{
-    match unit.variables.as_slice().get(variable as usize) {
-        Some(variable) => variable.name.bytes(),
-        None => b"",
-    }
-}
-
-/// The name of a stream.
-pub fn stream_word(unit: &Unit, stream: u32) -> &[u8]
-    ensures { result.now ≡ (stream_at unit.now stream).name }
-{
-    match unit.streams.as_slice().get(stream as usize) {
-        Some(stream) => stream.name.bytes(),
-        None => b"",
     }
 }
 

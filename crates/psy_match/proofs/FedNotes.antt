@@ -1,5 +1,5 @@
 -- What the inputs of a program publish, behind the notes of its run.
-use Rattle.std.proofs.Common.{◌≡◌, ◌∙◌, ℕ, ℤ, zero, suc, ◌+◌, ◌-◌, ◌≤◌, ◌==◌, ◌||◌, Bool, true, false, List, [], ◌∷◌, ◌++◌, Option, None, Some, append-nil, cond, drop, length, map, max, nat_le, not, option_map, pos, refl, sym, ap, subst, arith}
+use Rattle.std.proofs.Common.{◌≡◌, ◌∙◌, ℕ, ℤ, zero, suc, ◌+◌, ◌≤◌, ◌==◌, ◌||◌, Bool, true, false, List, [], ◌∷◌, ◌++◌, Option, None, Some, append-nil, cond, drop, length, map, max, nat_le, not, option_map, pos, refl, sym, ap, subst, arith}
 use Rattle.std.specs.Prelude.{bytes_eq, get_or, slice_get}
 use Rattle.std.specs.List.{flat_map, fold, list_all, list_any, position, position_from}
 use Rattle.std.proofs.lemmas.Bool.{and_parts, false≢true}

@@ -1,5 +1,5 @@
 -- A note's line ends with its only line feed, and isn't long.
-use Rattle.std.proofs.Common.{◌≡◌, ◌≢◌, ◌∙◌, ℕ, ℤ, pos, negsuc, suc, ◌+◌, ◌<◌, ◌≤◌, ◌==◌, ◌&&◌, ◌||◌, Bool, true, false, not, List, [], ◌∷◌, ◌++◌, length, Option, None, Some, refl, sym, ap, append_assoc, length-append, arith}
+use Rattle.std.proofs.Common.{◌≡◌, ◌≢◌, ◌∙◌, ℕ, ℤ, pos, negsuc, suc, ◌+◌, ◌<◌, ◌≤◌, ◌==◌, ◌&&◌, ◌||◌, Bool, true, false, not, List, [], ◌∷◌, ◌++◌, length, None, Some, refl, sym, ap, append_assoc, length-append, arith}
 use Rattle.std.specs.Prelude.{FitsSigned, decimal, nat_lt}
 use Rattle.std.specs.Fmt.{signed_decimal}
 use Rattle.std.specs.Int.{w32}
@@ -16,12 +16,11 @@ use Rattle.psy_log.specs.declared.form.Sort.{Sort}
 use Rattle.psy_log.specs.declared.form.Sort.TheVariants.{Short, Long, Value, Name, ShortOrDash, LongOrDash, Kind}
 use Rattle.psy_log.specs.declared.note.Note.{Note}
 use Rattle.psy_log.specs.Forms.{line_of, says}
-use Rattle.psy_log.specs.Table.{Place, Word, Any, fields_of, Said, short, long, value, name, short_or_none, long_or_none, kind, number_or_dash, spell, trap_name, words, written}
+use Rattle.psy_log.specs.Table.{Place, Word, Any, fields_of, Said, short, long, value, name, short_or_none, long_or_none, kind, spell, trap_name, words, written}
 use Rattle.psy_notes.specs.declared.stand.Stand.{Stand}
 use Rattle.psy_notes.specs.Fronts.{NoLine, is_part}
-use Rattle.psy_notes.specs.Notes.{Fills, Fits, IsLong, IsShort, IsTold, OrNone}
+use Rattle.psy_notes.specs.Notes.{Fills, Fits, IsLong, IsShort, IsTold}
 use Rattle.psy_notes.specs.Reading.{is_plain}
-use Rattle.psy_notes.specs.Texts.{Steps}
 use Rattle.psy_notes.proofs.Lines.{HasWord, has_word, line_of-spell}
 use Rattle.psy_notes.proofs.Plain.{plain_table, plain_words}
 

@@ -99,7 +99,7 @@ behind from (note ∷ notes) (other ∷ fronts) last mid rest leads goes is =
     (found.0, found.1, found.2, ap (λ s. s ∷ map says notes) same.2 ∙ ap (λ ss. says other ∷ ss) found.3)
 
 -- Each note has a byte at least
-few_notes : (from to : Stand) (notes : List Note) → Leads from notes to → length notes ≤ length (text_of notes)
+pub few_notes : (from to : Stand) (notes : List Note) → Leads from notes to → length notes ≤ length (text_of notes)
 few_notes from to [] leads = omega arith
 few_notes from to (note ∷ notes) leads = omega (arith, length-line note (text_of notes) leads.1.0, few_notes leads.0 to notes leads.2)
 

@@ -1,5 +1,5 @@
 //! Why a text isn't read as notes.
-use std::alloc::{AllocError, AllocFailed};
+use std::alloc::AllocFailed;
 use thiserror::Error;
 
 /// Why a text isn't read as notes.
@@ -11,17 +11,6 @@ pub enum TextFault {
     /// Want of memory.
     #[error("out of memory")]
     Memory,
-}
-
-impl From<AllocError> for TextFault {
-    ghost use Rattle.std.specs.Prelude.{◌≡◌};
-    ghost use Rattle.psy_notes.specs.declared.fault.TextFault.TheVariants.{Memory};
-
-    ghost from_gives = { λ _ fault. fault ≡ Memory };
-
-    fn from(_error: AllocError) -> TextFault {
-        TextFault::Memory
-    }
 }
 
 impl<T: Drop> From<AllocFailed<T>> for TextFault {

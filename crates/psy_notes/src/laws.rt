@@ -40,3 +40,8 @@ pub fn one_front()
         → Leads first fronts mid → text ≡ text_of fronts ++ rest
         → (more : List Note) × (rest ≡ text_of more) × (length more ≤ length rest) × (map says notes ≡ map says fronts ++ map says more) }
 {}
+
+/// Each note's line has a byte: there are no more notes than their text has bytes.
+pub fn few_notes()
+    ensures { (from to : Stand) (notes : List Note) → Leads from notes to → length notes ≤ length (text_of notes) }
+{}

@@ -1,20 +1,19 @@
 -- How a file is read on, and how reading it ends.
-use Rattle.std.proofs.Common.{◌≡◌, ◌≢◌, ◌∙◌, inl, inr, ◌⊎◌, refl, sym, ap, subst, ℕ, ◌+◌, ◌-◌, ◌<◌, ◌≤◌, ◌==◌, Bool, false, List, [], ◌∷◌, ◌++◌, length, drop, take, Option, None, Some, Result, Ok, Err, append_assoc, append-nil, length-append, arith}
+use Rattle.std.proofs.Common.{◌≡◌, ◌≢◌, ◌∙◌, inl, inr, ◌⊎◌, refl, sym, ap, subst, ℕ, ◌+◌, ◌-◌, ◌<◌, ◌==◌, false, List, [], ◌∷◌, ◌++◌, length, take, Option, None, Some, Result, Ok, Err, append_assoc, append-nil, length-append, arith}
 use Rattle.std.specs.Prelude.{IfErr, IsFalse, IsTrue}
 use Rattle.std.proofs.lemmas.Bool.{false≢true}
 use Rattle.std.proofs.Math.Seq.{take-length}
 use Rattle.std.proofs.lemmas.List.{take-append-le}
 use Rattle.psy_door.specs.Files.{Files, WhereTold, bytes_under}
-use Rattle.psy_door.specs.Growth.{Grew, GrewByFront}
+use Rattle.psy_door.specs.Growth.{Grew}
 use Rattle.psy_log.specs.declared.note.Note.{Note}
 use Rattle.psy_notes.specs.declared.stand.Stand.{Stand}
 use Rattle.psy_notes.specs.Fronts.{NoLine}
 use Rattle.psy_notes.specs.Stands.{may_end, run_begins}
-use Rattle.psy_notes.specs.Texts.{CannotGoOn, IsText, Leads, text_of}
+use Rattle.psy_notes.specs.Texts.{CannotGoOn, text_of}
 use Rattle.psy_passes.specs.declared.scan_fault.ScanFault.{ScanFault}
 use Rattle.psy_passes.specs.declared.scan_fault.ScanFault.TheVariants as fault
 use Rattle.psy_passes.specs.declared.progress.Progress.{Progress}
-use Rattle.psy_passes.specs.declared.reading.TheConstants.{LINES}
 use Rattle.psy_passes.specs.Progress.{IsUnfinished, StandsFor}
 use Rattle.psy_passes.specs.Runs.{Halts, IsOutside, IsRun, tail_of}
 use Rattle.psy_passes.specs.Telling.{Told, told_nothing}

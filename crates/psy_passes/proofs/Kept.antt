@@ -1,21 +1,19 @@
 -- What is kept of a run, line by line.
-use Rattle.std.proofs.Common.{◌≡◌, ◌≢◌, ◌∙◌, inl, inr, ◌⊎◌, refl, sym, ap, subst, ℕ, ◌+◌, ◌<◌, ◌≤◌, Bool, true, false, List, [], ◌∷◌, ◌++◌, length, Option, Some, append_assoc, append-nil, length-append, arith}
-use Rattle.std.specs.Prelude.{IsFalse, IsTrue}
+use Rattle.std.proofs.Common.{◌≡◌, ◌∙◌, refl, sym, ap, subst, ℕ, ◌+◌, ◌<◌, List, [], ◌∷◌, ◌++◌, length, Option, append_assoc, append-nil, length-append, arith}
 use Rattle.std.proofs.lemmas.Grind.{flat_map-append}
-use Rattle.psy_door.specs.Growth.{Grew, GrewByFront}
+use Rattle.psy_door.specs.Growth.{GrewByFront}
 use Rattle.psy_log.specs.declared.note.Note.{Note}
 use Rattle.psy_log.specs.Forms.{line_of}
 use Rattle.psy_notes.specs.declared.stand.Stand.{Stand}
-use Rattle.psy_notes.specs.Stands.{may_end, next_stand, run_begins}
-use Rattle.psy_notes.specs.Texts.{CannotGoOn, IsText, Leads, Steps, text_of}
-use Rattle.psy_notes.specs.Fronts.{NoLine}
+use Rattle.psy_notes.specs.Stands.{run_begins}
+use Rattle.psy_notes.specs.Texts.{Leads, Steps, text_of}
 use Rattle.psy_passes.specs.declared.scan_fault.ScanFault.{ScanFault}
 use Rattle.psy_passes.specs.declared.scan_fault.ScanFault.TheVariants as fault
 use Rattle.psy_passes.specs.declared.progress.Progress.{Progress}
 use Rattle.psy_passes.specs.declared.reading.TheConstants.{LINES}
 use Rattle.psy_passes.specs.Progress.{IsUntaken, StandsFor, WritesOn}
 use Rattle.psy_passes.specs.Runs.{Halts, IsOutside, Stops, tail_line, tail_of}
-use Rattle.psy_passes.specs.Telling.{Told, told_nothing, told_more}
+use Rattle.psy_passes.specs.Telling.{told_nothing, told_more}
 use Rattle.psy_passes.proofs.lemmas.Notes.{Leads-more}
 use Rattle.psy_passes.proofs.lemmas.Growth.{grew_nothing, grew_more, front_behind, front_nothing}
 

@@ -1,5 +1,5 @@
 -- What a fault of a file that was read before says.
-use Rattle.std.proofs.Common.{◌≡◌, ◌≢◌, ◌∙◌, refl, ap, ℕ, List, ◌++◌, Option, None, Ok}
+use Rattle.std.proofs.Common.{◌≡◌, refl, ℕ, List, Option, None}
 use Rattle.psy_door.specs.Files.{Files}
 use Rattle.psy_log.specs.declared.note.Note.{Note}
 use Rattle.psy_notes.specs.Texts.{text_of}
@@ -7,7 +7,6 @@ use Rattle.psy_passes.specs.Logs.{IsLog}
 use Rattle.psy_passes.specs.declared.scan_fault.ScanFault.{ScanFault}
 use Rattle.psy_passes.specs.declared.scan_fault.ScanFault.TheVariants as scan
 use Rattle.psy_passes.specs.Runs.{IsRun, tail_of}
-use Rattle.psy_passes.specs.declared.fault.PassFault.{PassFault}
 use Rattle.psy_passes.specs.declared.fault.PassFault.TheVariants as fault
 use Rattle.psy_passes.specs.declared.strict.Strict.{Strict}
 use Rattle.psy_passes.specs.NameChecks.{AreNamesOf, RefusesOther, TellsListed}

@@ -3,8 +3,8 @@ use Rattle.std.proofs.Common.{◌≡◌, ℕ, ◌+◌, Bool, not, List, Option, 
 use Rattle.std.specs.List.{list_any, position}
 use Rattle.psy_log.specs.declared.note.Note.{Note}
 use Rattle.psy_log.specs.declared.note.Note.TheVariants as note
-use Rattle.psy_passes.specs.declared.log_fault.LogFault.{LogFault}
-use Rattle.psy_passes.specs.declared.log_fault.LogFault.TheVariants as fault
+use Rattle.psy_passes.specs.declared.fault.PassFault.{PassFault}
+use Rattle.psy_passes.specs.declared.fault.PassFault.TheVariants as fault
 use Rattle.psy_passes.specs.declared.listed.Listed.{Listed}
 use Rattle.psy_passes.specs.Listing.{agents_in, first_unlisted, is_listed, streams_in, variables_in}
 use Rattle.psy_passes.specs.Tables.{is_among}
@@ -33,11 +33,11 @@ unlisted_at listed a b notes first second agents variables streams place found =
     ∙ unlisted_found listed a agents variables streams ∙ ap first_unlisted first
 
 -- The line of a refusal
-line_of_fault : {T : Type 0} → Result T LogFault → ℕ
+line_of_fault : {T : Type 0} → Result T PassFault → ℕ
 line_of_fault (Err (fault.Unlisted line)) = line
 line_of_fault _ = 0
 
 -- Refusals that are one have one line.
-pub line_is : {T : Type 0} (m n : ℕ) → ◌≡◌ {A = Result T LogFault} (Err (fault.Unlisted m)) (Err (fault.Unlisted n)) → m ≡ n
+pub line_is : {T : Type 0} (m n : ℕ) → ◌≡◌ {A = Result T PassFault} (Err (fault.Unlisted m)) (Err (fault.Unlisted n)) → m ≡ n
 unfolding line_of_fault
 line_is m n e = ap line_of_fault e

@@ -1,13 +1,12 @@
 -- What a scan says of a run, where the names of its summary are known.
-use Rattle.std.proofs.Common.{◌≡◌, ◌≢◌, ◌∙◌, ◌⊎◌, inl, inr, refl, sym, ap, subst, ℕ, ◌+◌, not, List, [], ◌∷◌, ◌++◌, Option, None, Some, option_map, append-nil}
+use Rattle.std.proofs.Common.{◌≡◌, ◌≢◌, ◌∙◌, inl, inr, refl, sym, ap, ℕ, ◌+◌, not, List, [], ◌++◌, Option, None, Some, option_map, append-nil}
 use Rattle.std.specs.List.{position}
-use Rattle.psy_door.specs.Files.{Files, WhereTold, bytes_under}
+use Rattle.psy_door.specs.Files.{Files, bytes_under}
 use Rattle.psy_door.specs.Growth.{Grew, GrewByFront}
 use Rattle.psy_log.specs.declared.note.Note.{Note}
-use Rattle.psy_log.specs.Forms.{line_of}
 use Rattle.psy_notes.specs.declared.stand.Stand.{Stand}
 use Rattle.psy_notes.specs.Stands.{run_begins}
-use Rattle.psy_notes.specs.Texts.{IsText, Leads, text_of}
+use Rattle.psy_notes.specs.Texts.{Leads, text_of}
 use Rattle.psy_passes.specs.declared.listed.Listed.{Listed}
 use Rattle.psy_passes.specs.Listing.{agents_in, first_unlisted, streams_in, variables_in}
 use Rattle.psy_passes.specs.Logs.{IsLog}

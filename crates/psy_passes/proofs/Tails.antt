@@ -1,6 +1,6 @@
 -- The lines of a run's end and summary are a run's, whose summary lists the same.
-use Rattle.std.proofs.Common.{◌≡◌, ◌∙◌, refl, sym, ap, subst, ℕ, ◌+◌, ◌≤◌, Bool, true, false, ◌&&◌, List, [], ◌∷◌, ◌++◌, map, Option, None, Some, append-nil, arith}
-use Rattle.std.specs.Prelude.{IsTrue, fold, nat_le, nat_lt, unwrap_or}
+use Rattle.std.proofs.Common.{◌≡◌, ◌∙◌, refl, sym, ap, subst, ℕ, ◌+◌, ◌≤◌, Bool, true, false, List, [], ◌∷◌, ◌++◌, Some, arith}
+use Rattle.std.specs.Prelude.{IsTrue, fold, nat_lt, unwrap_or}
 use Rattle.std.proofs.lemmas.Bool.{false≢true}
 use Rattle.std.proofs.lemmas.Bool.Decides.{nat_tests}
 use Rattle.psy_base.specs.declared.limits.TheConstants.{STREAMS, UNTIL, VARIABLES}
@@ -9,8 +9,8 @@ use Rattle.psy_log.specs.declared.note.Note.TheVariants as note
 use Rattle.psy_log.specs.Forms.{line_of}
 use Rattle.psy_notes.specs.declared.stand.Stand.{Stand}
 use Rattle.psy_notes.specs.declared.stand.Stand.TheVariants as stand
-use Rattle.psy_notes.specs.Stands.{behind_agents, behind_dated, behind_streams, behind_variables, may_be_dated, may_end, next_stand, run_begins, where_so}
-use Rattle.psy_notes.specs.Texts.{IsText, Leads, Steps, text_of}
+use Rattle.psy_notes.specs.Stands.{behind_agents, behind_streams, behind_variables, may_be_dated, may_end, next_stand, run_begins, where_so}
+use Rattle.psy_notes.specs.Texts.{IsText, Leads, text_of}
 use Rattle.psy_passes.specs.Listing.{added_agent, added_stream, added_variable, agents_in, streams_in, variables_in}
 use Rattle.psy_passes.specs.Runs.{tail_line, tail_of}
 use Rattle.psy_passes.specs.NameChecks.{kept, undated}

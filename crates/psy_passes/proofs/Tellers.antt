@@ -1,5 +1,5 @@
 -- What tellers have told of notes in a row.
-use Rattle.std.proofs.Common.{◌≡◌, ◌∙◌, refl, sym, ap, subst, ℕ, ◌+◌, ◌-◌, ◌^◌, ◌≤◌, min, Bool, true, List, [], ◌∷◌, ◌++◌, length, Option, None, option_map, length-append, arith}
+use Rattle.std.proofs.Common.{◌≡◌, ◌∙◌, refl, sym, ap, ℕ, ◌+◌, ◌≤◌, Bool, true, List, [], ◌∷◌, ◌++◌, length, None, option_map, length-append, arith}
 use Rattle.psy_log.specs.declared.note.Note.{Note}
 use Rattle.psy_passes.specs.declared.listed.Listed.{Listed}
 use Rattle.psy_passes.specs.Tables.{is_among}

@@ -1,5 +1,5 @@
 -- A file that was read twice had two texts, where the second reading doesn't end as the first.
-use Rattle.std.proofs.Common.{◌≡◌, ◌≢◌, ◌∙◌, ◌⊎◌, refl, sym, ap, subst, ℕ, zero, suc, ◌+◌, ◌≤◌, true, false, not, List, [], ◌∷◌, ◌++◌, length, map, Option, None, Some, length-append, append_assoc, append-nil, arith}
+use Rattle.std.proofs.Common.{◌≡◌, ◌≢◌, ◌∙◌, refl, sym, ap, subst, ℕ, ◌+◌, ◌≤◌, false, not, List, [], ◌∷◌, ◌++◌, length, map, Option, None, Some, length-append, append_assoc, append-nil, arith}
 use Rattle.std.specs.List.{position}
 use Rattle.std.specs.Prelude.{IfOk, Result, Ok, Err}
 use Rattle.std.proofs.lemmas.Bool.{false≢true}
@@ -8,16 +8,13 @@ use Rattle.psy_base.specs.declared.memory.Memory.{Memory}
 use Rattle.psy_lists.proofs.lemmas.Places.{none_left}
 use Rattle.psy_door.specs.Files.{Files}
 use Rattle.psy_log.specs.declared.note.Note.{Note}
-use Rattle.psy_log.specs.declared.form.Form.{Form}
 use Rattle.psy_log.specs.Forms.{line_of, says}
-use Rattle.psy_log.specs.Table.{Said}
 use Rattle.psy_notes.specs.declared.stand.Stand.{Stand}
 use Rattle.psy_notes.specs.Stands.{run_begins}
 use Rattle.psy_notes.specs.Texts.{BreaksAt, IsText, Leads, Steps, text_of}
 use Rattle.psy_passes.specs.declared.listed.Listed.{Listed}
 use Rattle.psy_passes.specs.Listing.{agents_in, streams_in, variables_in}
 use Rattle.psy_passes.specs.Tables.{is_among}
-use Rattle.psy_passes.specs.declared.scan_fault.ScanFault.{ScanFault}
 use Rattle.psy_passes.specs.declared.scan_fault.ScanFault.TheVariants as fault
 use Rattle.psy_passes.specs.declared.reading.TheConstants.{LINES}
 use Rattle.psy_passes.specs.Runs.{Halts, IsRun, tail_of}

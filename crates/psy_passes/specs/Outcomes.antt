@@ -55,6 +55,14 @@ IsOfForm fault.Unread = Unit {0}
 IsOfForm fault.Memory = Unit {0}
 IsOfForm other = ⊥
 
+-- Of a text in memory
+abbrev pub IsOfText : PassFault → Type 0
+IsOfText (fault.Line line) = Unit {0}
+IsOfText (fault.Unlisted line) = Unit {0}
+IsOfText fault.Many = Unit {0}
+IsOfText fault.Memory = Unit {0}
+IsOfText other = ⊥
+
 -- Of the pass for names
 abbrev pub IsOfNames : PassFault → Type 0
 IsOfNames (fault.Unlisted line) = Unit {0}

@@ -2,7 +2,6 @@
 ghost use Rattle.std.specs.Prelude.{◌≡◌};
 
 use psy_base::Memory;
-use std::alloc::{AllocError, AllocFailed};
 use thiserror::Error;
 
 /// Why nothing is told of a run, or not all.
@@ -36,26 +35,6 @@ impl From<Memory> for PassFault {
     ghost from_gives = { λ _ fault. fault ≡ Memory };
 
     fn from(_memory: Memory) -> PassFault {
-        PassFault::Memory
-    }
-}
-
-impl From<AllocError> for PassFault {
-    ghost use Rattle.psy_passes.specs.declared.fault.PassFault.TheVariants.{Memory};
-
-    ghost from_gives = { λ _ fault. fault ≡ Memory };
-
-    fn from(_error: AllocError) -> PassFault {
-        PassFault::Memory
-    }
-}
-
-impl<T: Drop> From<AllocFailed<T>> for PassFault {
-    ghost use Rattle.psy_passes.specs.declared.fault.PassFault.TheVariants.{Memory};
-
-    ghost from_gives = { λ _ fault. fault ≡ Memory };
-
-    fn from(_failed: AllocFailed<T>) -> PassFault {
         PassFault::Memory
     }
 }

@@ -6,7 +6,6 @@
 mod fault;
 pub mod laws;
 mod listed;
-mod log_fault;
 mod name_check;
 mod names;
 mod nowhere;
@@ -21,7 +20,6 @@ mod tell;
 
 pub use fault::PassFault;
 pub use listed::Listed;
-pub use log_fault::LogFault;
 pub use names::Names;
 pub use nowhere::Nowhere;
 pub use passes::{names_of, notes_of, survey, write_text, write_told};

@@ -70,10 +70,8 @@ pub fn names_of<'a>(alloc: Global, tail: &'a [u8]) -> Result<Listed<'a>, Memory>
     requires { IsTail tail.now }
     ensures { IfOk result (λ listed. AreNamesOf listed tail.now) }
 {
-    match notes_of(alloc, tail) {
-        Ok(notes) => Listed::of(alloc, notes.as_slice()),
-        Err(Memory) => Err(Memory),
-    }
+    let notes = notes_of(alloc, tail)?;
+    Listed::of(alloc, notes.as_slice())
 }
 
 // What a fault of a file is that was read to its end before: where it isn't as it was, it changed.

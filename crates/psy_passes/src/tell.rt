@@ -3,7 +3,7 @@ ghost use Rattle.std.specs.Prelude.{◌≡◌, ℕ, List, ◌++◌, OnOk};
 ghost use Rattle.psy_log.specs.declared.note.Note.{Note as Said};
 
 use psy_log::Note;
-use std::alloc::{AllocError, AllocFailed};
+use std::alloc::AllocError;
 use thiserror::Error;
 
 /// Why nothing is told of a note.
@@ -23,17 +23,6 @@ impl From<AllocError> for TellFault {
     ghost from_gives = { λ _ fault. fault ≡ TellFault.Memory };
 
     fn from(_error: AllocError) -> TellFault {
-        TellFault::Memory
-    }
-}
-
-impl<T: Drop> From<AllocFailed<T>> for TellFault {
-    ghost use Rattle.std.specs.Prelude.{◌≡◌};
-    ghost use Rattle.psy_passes.specs.declared.tell.TellFault.{TellFault};
-
-    ghost from_gives = { λ _ fault. fault ≡ TellFault.Memory };
-
-    fn from(_failed: AllocFailed<T>) -> TellFault {
         TellFault::Memory
     }
 }

@@ -1,7 +1,8 @@
 -- The length over which the least of a supply is left by a demand, or over which the most is missing. Numbers are natural, so what would be subtracted
 -- stands on the other side. A demand is told by its length.
-use Rattle.std.specs.Prelude.{◌≡◌, ℕ, ◌+◌, ◌*◌, ◌==◌, ◌<◌, ◌≤◌, if◌then◌else◌, List, [], get_or, length, slice_index}
-use Rattle.std.specs.List.{range_with_len, sum_by}
+use Rattle.std.specs.Prelude.{◌≡◌, ℕ, ◌+◌, ◌*◌, ◌==◌, ◌<◌, ◌≤◌, ◌^◌, if◌then◌else◌, List, [], get_or, length, slice_index}
+use Rattle.std.specs.List.{All, range_with_len, sum_by}
+use Rattle.psy_base.specs.declared.limits.TheConstants.{AGENTS}
 use Rattle.psy_history.specs.Processors.{processors}
 use Rattle.psy_tree.specs.declared.unit.Unit.{Unit as Whole}
 use Rattle.psy_tree.specs.Parts.{homes}
@@ -20,6 +21,12 @@ pub record IsTightest (quantum : ℕ) (demand : ℕ → ℕ) (top length : ℕ) 
   pub within : length ≤ top
   pub most : (other : ℕ) → 1 ≤ other → other ≤ top → IsNoLooser quantum demand length other
   pub first : (less : ℕ) → 1 ≤ less → less < length → IsTighter quantum demand length less
+
+-- The lists of a program's agents by length: one for each, of numbers of some size
+pub record AreListed (unit : Whole) (lists : List (List ℕ)) : Type 0 where
+  pub few : length unit.agents ≤ AGENTS
+  pub count : length lists ≡ length unit.agents
+  pub small : All (All (λ part. part < 2 ^ 50)) lists
 
 -- What the list of an agent has at a length, where the agent is of this processor
 abbrev pub demand_of : List (List ℕ) → List ℕ → ℕ → ℕ → ℕ → ℕ

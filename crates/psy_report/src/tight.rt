@@ -4,34 +4,24 @@ ghost use Rattle.std.specs.List.{All};
 ghost use Rattle.psy_base.specs.declared.limits.TheConstants.{AGENTS, PROCESSORS};
 ghost use Rattle.psy_meaning.specs.Units.{IsBare};
 ghost use Rattle.psy_tree.specs.Parts.{homes};
-ghost use Rattle.psy_report.specs.Tightness.{AreTightest, IsTightest, demand_of, demand_on};
+ghost use Rattle.psy_report.specs.Tightness.{AreListed, AreTightest, IsTightest, demand_of, demand_on};
 
+use crate::measures::at;
 use psy_base::{Items, Memory};
 use psy_history::{processor_of, processors_of};
 use psy_lists::push;
 use psy_tree::Unit;
 use std::alloc::Global;
 
-/// What a list has at a length; 0 where it isn't so long.
-pub fn part(list: &Items<u64>, within: u32) -> u64
-    ensures { result ≡ get_or list.now within 0 }
-{
-    match list.as_slice().get(within as usize) {
-        Some(part) => *part,
-        None => 0,
-    }
-}
-
-// The same of the list of an agent, which is small, where the agent is of this processor; else 0.
+// What the list of an agent, which is small, has at a length, where the agent is of this processor; else 0.
 fn own_part(unit: &Unit, lists: &[Items<u64>], processor: u32, within: u32, agent: u32) -> u64
-    requires count { length lists.now ≡ length unit.now.agents }
+    requires listed { AreListed unit.now lists.now }
     requires known { agent < length unit.now.agents }
-    requires small { All (All (λ part. part < 2 ^ 50)) lists.now }
     ensures part { result ≡ demand_of lists.now (homes unit.now) processor within agent }
     ensures small { result ≤ 2 ^ 50 }
 {
     if processor_of(unit, agent) == processor {
-        part(&lists[agent as usize], within)
+        at(lists[agent as usize].as_slice(), within as usize)
     } else {
         0
     }
@@ -39,9 +29,7 @@ fn own_part(unit: &Unit, lists: &[Items<u64>], processor: u32, within: u32, agen
 
 /// The demand on a processor over a length.
 pub fn demand(unit: &Unit, lists: &[Items<u64>], processor: u32, within: u32) -> u64
-    requires few { length unit.now.agents ≤ AGENTS }
-    requires count { length lists.now ≡ length unit.now.agents }
-    requires small { All (All (λ part. part < 2 ^ 50)) lists.now }
+    requires listed { AreListed unit.now lists.now }
     ensures sum { result ≡ demand_on unit.now lists.now processor within }
     ensures small { result ≤ AGENTS * 2 ^ 50 }
 {
@@ -61,9 +49,7 @@ fn sum(first: u64, second: u64) -> u128
 
 // Whether less of a processor's supply is left over a length than over another.
 fn is_tighter(unit: &Unit, lists: &[Items<u64>], processor: u32, within: u32, other: u32) -> bool
-    requires few { length unit.now.agents ≤ AGENTS }
-    requires count { length lists.now ≡ length unit.now.agents }
-    requires small { All (All (λ part. part < 2 ^ 50)) lists.now }
+    requires listed { AreListed unit.now lists.now }
     ensures { result ≡ nat_lt (unit.now.quantum * within + demand_on unit.now lists.now processor other)
         (unit.now.quantum * other + demand_on unit.now lists.now processor within) }
 {
@@ -75,9 +61,7 @@ fn is_tighter(unit: &Unit, lists: &[Items<u64>], processor: u32, within: u32, ot
 
 // The least length, of those from 1 up to this one, over which the least is left of a processor's supply, or the most is missing.
 fn tightest(unit: &Unit, lists: &[Items<u64>], processor: u32, top: u32) -> u32
-    requires few { length unit.now.agents ≤ AGENTS }
-    requires count { length lists.now ≡ length unit.now.agents }
-    requires small { All (All (λ part. part < 2 ^ 50)) lists.now }
+    requires listed { AreListed unit.now lists.now }
     requires some { 1 ≤ top }
     ensures { IsTightest unit.now.quantum (demand_on unit.now lists.now processor) top result }
 {
@@ -98,8 +82,7 @@ pub fn tightest_of(
     top: u32,
 ) -> Result<Items<u32>, Memory>
     requires bare { IsBare unit.now }
-    requires count { length lists.now ≡ length unit.now.agents }
-    requires small { All (All (λ part. part < 2 ^ 50)) lists.now }
+    requires listed { AreListed unit.now lists.now }
     ensures tightest { IfOk result (AreTightest unit.now lists.now top) }
     ensures few { IfOk result (λ lengths. length lengths ≤ PROCESSORS) }
 {

@@ -1,10 +1,12 @@
 -- Which earlier line of inputs or of a script says the same as a line: gives an input its values, stalls there, or tells the order or the round
 -- from that cycle on.
-use Rattle.std.specs.Prelude.{ℕ, suc, Bool, false, ◌&&◌, if◌then◌else◌, List, [], ◌∷◌, codes, bytes_eq, Option, None, Some, option_map}
-use Rattle.std.specs.List.{list_any}
+use Rattle.std.specs.Prelude.{ℕ, suc, Bool, false, ◌&&◌, if◌then◌else◌, List, [], ◌∷◌, bytes_eq, Option, None, Some, option_map}
 use Rattle.psy_slip.specs.declared.slip.File.{File}
 use Rattle.psy_slip.specs.declared.slip.File.TheVariants.{Program, Inputs, Script}
+use Rattle.psy_slip.specs.declared.statement.Statement.{Statement}
+use Rattle.psy_slip.specs.declared.statement.Statement.TheVariants.{Stall, Order, Round}
 use Rattle.psy_slip.specs.Numbers.{is_same_number}
+use Rattle.psy_slip.specs.Statements.{statement_of}
 use Rattle.psy_text.specs.Lines.{lines_of}
 use Rattle.psy_text.specs.Words.{words_of}
 
@@ -24,12 +26,16 @@ unfoldable pub is_same_cycle : List (List ℕ) → List (List ℕ) → Bool
 is_same_cycle (cycle ∷ names) (other ∷ others) = is_same_number cycle other
 is_same_cycle _ _ = false
 
--- Two lines of a script, by their words, say the same.
+-- Two statements, by the words behind them, say the same.
+abbrev pub say_same : Option Statement → Option Statement → List (List ℕ) → List (List ℕ) → Bool
+say_same (Some Stall) (Some Stall) words others = is_same_stall words others
+say_same (Some Order) (Some Order) words others = is_same_cycle words others
+say_same (Some Round) (Some Round) words others = is_same_cycle words others
+say_same _ _ words others = false
+
+-- Two lines of a script, by their words, do.
 abbrev pub is_same_statement : List (List ℕ) → List (List ℕ) → Bool
-is_same_statement (word ∷ words) (other ∷ others) =
-    if bytes_eq word (codes "stall") then bytes_eq other (codes "stall") && is_same_stall words others
-    else if bytes_eq word (codes "order") then bytes_eq other (codes "order") && is_same_cycle words others
-    else bytes_eq word (codes "round") && (bytes_eq other (codes "round") && is_same_cycle words others)
+is_same_statement (word ∷ words) (other ∷ others) = say_same (statement_of word) (statement_of other) words others
 is_same_statement _ _ = false
 
 -- Two lines of a file, by their words, say the same; of a program's nothing is told.
@@ -46,13 +52,3 @@ first_number p (x ∷ xs) = if p x then Some 1 else option_map suc (first_number
 -- The number, from 1, of the first line of a text that says the same as these words
 abbrev pub first_like : File → List (List ℕ) → List ℕ → Option ℕ
 first_like file words text = first_number (λ line. is_said_by file words (words_of line)) (lines_of text)
-
--- The first word that stands again behind itself
-abbrev pub first_repeated : List (List ℕ) → Option (List ℕ)
-first_repeated [] = None
-first_repeated (word ∷ words) = if list_any (bytes_eq word) words then Some word else first_repeated words
-
--- The first word that stands again behind itself, as the same number
-abbrev pub first_same : List (List ℕ) → Option (List ℕ)
-first_same [] = None
-first_same (word ∷ words) = if list_any (is_same_number word) words then Some word else first_same words

@@ -1,12 +1,18 @@
 -- What a file looks like that may stand in another's place.
-use Rattle.std.specs.Prelude.{ℕ, Bool, false, not, ◌&&◌, ◌||◌, nat_le, if◌then◌else◌, List, [], ◌∷◌, ◌++◌, codes, bytes_eq, find, length, take, unwrap_or}
-use Rattle.std.specs.Prelude.{Option, None, Some}
-use Rattle.std.specs.List.{list_all, list_any}
+use Rattle.std.specs.Prelude.{ℕ, Bool, false, not, ◌&&◌, ◌||◌, nat_le, if◌then◌else◌, List, [], ◌∷◌, codes, bytes_eq, find, length, take, unwrap_or}
+use Rattle.std.specs.Prelude.{Option, None, Some, is_some, option_map}
+use Rattle.std.specs.List.{list_any}
 use Rattle.psy_base.specs.declared.limits.TheConstants.{FILE_BYTES}
+use Rattle.psy_page.specs.Templates.{fill}
+use Rattle.psy_page.specs.Told.{hint}
 use Rattle.psy_slip.specs.declared.look.Look.{Look}
 use Rattle.psy_slip.specs.declared.look.Look.TheVariants.{Program, Inputs, Script, Log}
+use Rattle.psy_slip.specs.declared.sentences.TheConstants as told
 use Rattle.psy_slip.specs.declared.slip.File.{File}
 use Rattle.psy_slip.specs.declared.slip.File.TheVariants as files
+use Rattle.psy_slip.specs.declared.sought.Sought.TheVariants.{NoValue}
+use Rattle.psy_slip.specs.Searches.{has}
+use Rattle.psy_slip.specs.Statements.{statement_of}
 use Rattle.psy_text.specs.Lines.{is_none_of, is_skipped, lines_of}
 use Rattle.psy_text.specs.Words.{is_number, is_value, words_of}
 
@@ -27,24 +33,18 @@ first_said text = unwrap_or (find says (lines_of text)) []
 abbrev pub begins_program : List ℕ → Bool
 begins_program word = bytes_eq word (codes "tick") || bytes_eq (take 2 word) (codes "/*")
 
+-- The words with which a declaration other than `tick` begins
+abbrev pub DECLARING : List (List ℕ)
+DECLARING = codes "clock" ∷ codes "temporal" ∷ codes "input" ∷ codes "stream" ∷ codes "agent" ∷ codes "int" ∷ []
+
 -- A declaration other than `tick` begins with this word.
 abbrev pub begins_declaration : List ℕ → Bool
-begins_declaration word =
-    bytes_eq word (codes "clock") || (bytes_eq word (codes "temporal") || (bytes_eq word (codes "input") || (bytes_eq word (codes "stream")
-    || (bytes_eq word (codes "agent") || bytes_eq word (codes "int")))))
+begins_declaration word = list_any (λ other. bytes_eq other word) DECLARING
 
 -- Behind a name stands no number, as one does in the lines of agents and streams that psyc writes.
 abbrev pub is_declared : List (List ℕ) → Bool
 is_declared (name ∷ word ∷ more) = not (is_number word)
 is_declared _ = false
-
--- Values, and at least one
-abbrev pub are_values : List (List ℕ) → Bool
-are_values words = not (is_none_of words) && list_all is_value words
-
--- A line of a script begins with this word.
-abbrev pub begins_statement : List ℕ → Bool
-begins_statement word = bytes_eq word (codes "stall") || (bytes_eq word (codes "order") || bytes_eq word (codes "round"))
 
 -- Behind a date a line of a log has a name, and something behind that.
 abbrev pub is_note : List (List ℕ) → Bool
@@ -56,8 +56,8 @@ is_note _ = false
 abbrev pub is_like : Look → List (List ℕ) → Bool
 is_like look [] = false
 is_like Program (word ∷ words) = begins_program word || (begins_declaration word && is_declared words)
-is_like Script (word ∷ words) = begins_statement word
-is_like Inputs (word ∷ words) = not (begins_program word) && are_values words
+is_like Script (word ∷ words) = is_some (statement_of word)
+is_like Inputs (word ∷ words) = not (begins_program word) && (not (is_none_of words) && not (has NoValue words))
 is_like Log (word ∷ words) = is_number word && is_note words
 
 -- The line at which a log comes to its summary begins so.
@@ -85,31 +85,26 @@ look_of files.Script = Script
 
 -- How each is called
 abbrev pub called : Look → List ℕ
-called Program = codes "a program"
-called Inputs = codes "inputs"
-called Script = codes "a script"
-called Log = codes "the log of a run"
+called Program = told.PROGRAM.now
+called Inputs = told.INPUTS.now
+called Script = told.SCRIPT.now
+called Log = told.LOG.now
 
 -- What is told of a file that should look like one and looks like another
-abbrev pub unlike : Look → Option Look → List ℕ
-unlike wanted None = []
-unlike wanted (Some look) = codes "hint: this file looks like " ++ called look ++ codes ", not like " ++ called wanted ++ codes "\n"
+abbrev pub unlike : Look → Option Look → Option (List ℕ)
+unlike wanted look = option_map (λ l. fill told.UNLIKE.now (called l ∷ called wanted ∷ [])) look
 
 -- The same by the words of its first line that says something, and whether it has the end of a log, where it doesn't look like one of its sort
-abbrev pub look_told : File → Bool → List (List ℕ) → List ℕ
-look_told wanted ended words = if is_like (look_of wanted) words then [] else unlike (look_of wanted) (look_in ended words)
+abbrev pub look_told : File → Bool → List (List ℕ) → Option (List ℕ)
+look_told wanted ended words = if is_like (look_of wanted) words then None else unlike (look_of wanted) (look_in ended words)
 
 -- A text begins with the three bytes of a byte order mark.
 abbrev pub is_marked : List ℕ → Bool
 is_marked text = bytes_eq (take 3 text) (0xEF ∷ 0xBB ∷ 0xBF ∷ [])
 
--- What is told of it
-abbrev pub mark_told : List ℕ
-mark_told = codes "hint: this file begins with a byte order mark, the bytes EF BB BF: save it without one\n"
-
 -- What is told of the whole of a file that should be of this sort: that a byte order mark stands in front, or that it looks like one of another sort
 abbrev pub file_hint : File → List ℕ → List ℕ
-file_hint wanted text = if is_marked text then mark_told else look_told wanted (has_end text) (words_of (first_said text))
+file_hint wanted text = if is_marked text then hint (Some told.MARKED.now) else hint (look_told wanted (has_end text) (words_of (first_said text)))
 
 -- A text looks like a program: it has no more bytes than one may have, and begins so.
 abbrev pub is_program : List ℕ → Bool

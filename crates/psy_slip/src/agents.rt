@@ -1,14 +1,12 @@
 //! Which names of an order may be no agents.
-ghost use Rattle.std.specs.Prelude.{◌≡◌, ◌++◌, IfOk, OnOk, codes, map};
-ghost use Rattle.psy_slip.specs.Agents.{between, is_known, names_agent, others, strangers, strangers_told};
-ghost use Rattle.psy_slip.specs.Told.{quoted};
+ghost use Rattle.std.specs.Prelude.{◌≡◌, IfOk, map};
+ghost use Rattle.psy_slip.specs.Agents.{is_known, names_agent, strangers};
 
-use crate::earlier::contains;
-use crate::told::add_quoted;
+use crate::statement::{Statement, is_among, statement_of};
 use psy_base::Memory;
 use psy_text::line::cut_line;
 use psy_text::word::words_of;
-use std::alloc::{AllocError, Global};
+use std::alloc::Global;
 
 /// Those names that no line of a text of a script names. The only error is want of memory.
 pub fn strangers<'a>(
@@ -48,54 +46,11 @@ fn names_agent(name: &[u8], words: &[&[u8]]) -> bool
     ensures { result ≡ names_agent name.now (map (λ w. w.now) words.now) }
 {
     match words {
-        [word, one, more @ ..] => {
-            if *word == b"stall".as_slice() {
-                name == *one
-            } else {
-                *word == b"order".as_slice() && contains(more, name)
-            }
-        }
+        [word, one, more @ ..] => match statement_of(word) {
+            Some(Statement::Stall) => name == *one,
+            Some(Statement::Order) => is_among(Statement::Order, more, name),
+            _ => false,
+        },
         _ => false,
-    }
-}
-
-/// Adds that one of these names is no agent.
-pub fn add_strangers_told(out: &mut Vec<u8>, names: &[&[u8]]) -> Result<(), AllocError>
-    ensures { OnOk result (out.new.items ≡ out.old.items ++ strangers_told (map (λ w. w.now) names.now)) }
-{
-    match names {
-        [] => out.extend_from_slice(b"a name of this order is no agent of the program"),
-        [name, more @ ..] => add_either(out, name, more),
-    }
-}
-
-// Adds that a name or one of those behind it is no agent.
-fn add_either(out: &mut Vec<u8>, name: &[u8], more: &[&[u8]]) -> Result<(), AllocError>
-    ensures { OnOk result (out.new.items ≡ out.old.items ++ quoted name.now ++ others (map (λ w. w.now) more.now) ++ codes " is no agent of the program") }
-{
-    add_quoted(out, name)?;
-    add_others(out, more)?;
-    out.extend_from_slice(b" is no agent of the program")
-}
-
-// Adds the names behind the first.
-fn add_others(out: &mut Vec<u8>, names: &[&[u8]]) -> Result<(), AllocError>
-    ensures { OnOk result (out.new.items ≡ out.old.items ++ others (map (λ w. w.now) names.now)) }
-{
-    let mut left = names;
-    'each: while let [name, more @ ..] = left {
-        add_between(out, more)?;
-        add_quoted(out, name)?;
-        left = more;
-    }
-    Ok(())
-}
-
-fn add_between(out: &mut Vec<u8>, behind: &[&[u8]]) -> Result<(), AllocError>
-    ensures { OnOk result (out.new.items ≡ out.old.items ++ between (map (λ w. w.now) behind.now)) }
-{
-    match behind {
-        [] => out.extend_from_slice(b" or "),
-        [_, ..] => out.extend_from_slice(b", "),
     }
 }

@@ -1,16 +1,21 @@
 //! What a file looks like that may stand in another's place.
-ghost use Rattle.std.specs.Prelude.{◌≡◌, ◌++◌, IfOk, OnOk, map};
-ghost use Rattle.std.specs.List.{list_all};
-ghost use Rattle.psy_slip.specs.Looks.{are_values, begins_declaration, begins_program, begins_statement, called, ends, file_hint, first_said};
+ghost use Rattle.std.specs.Prelude.{◌≡◌, IfOk, map};
+ghost use Rattle.psy_page.specs.Told.{said};
+ghost use Rattle.psy_slip.specs.Looks.{begins_declaration, begins_program, called, ends, file_hint, first_said};
 ghost use Rattle.psy_slip.specs.Looks.{has_end, is_declared, is_like, is_marked, is_note, is_program, is_slashed, look_in, look_of, look_told, says, unlike};
-ghost use Rattle.psy_text.specs.Words.{is_value, words_of};
+ghost use Rattle.psy_text.specs.Words.{words_of};
 
+use crate::sentences as words;
 use crate::slip::File;
+use crate::sought::{Sought, has};
+use crate::statement::statement_of;
 use psy_base::Memory;
 use psy_base::limits::FILE_BYTES;
+use psy_page::Piece::Raw;
+use psy_page::{Told, hint};
 use psy_text::line::{cut_line, is_skipped};
 use psy_text::word::{cut_word, is_number, is_value, words_of};
-use std::alloc::{AllocError, Global};
+use std::alloc::Global;
 
 /// What a file may look like.
 #[derive(Clone, Copy, Debug, PartialEq, Eq)]
@@ -27,16 +32,11 @@ pub enum Look {
 pub fn file_hint(alloc: Global, wanted: File, text: &[u8]) -> Result<Vec<u8>, Memory>
     ensures { IfOk result (λ hint. hint.items ≡ file_hint wanted text.now) }
 {
-    let mut hint = Vec::new(alloc);
     if is_marked(text) {
-        hint.extend_from_slice(
-            b"hint: this file begins with a byte order mark, the bytes EF BB BF: save it without one\n",
-        )?;
-        return Ok(hint);
+        return Ok(hint(alloc, Some(Told::Plain(words::MARKED)))?);
     }
     let words = words_of(alloc, first_said(text))?;
-    add_look(&mut hint, wanted, has_end(text), words.as_slice())?;
-    Ok(hint)
+    Ok(hint(alloc, look_told(wanted, has_end(text), words.as_slice()))?)
 }
 
 /// Does a text look like a program, by its length and its first line that says something? The only error is want of memory.
@@ -106,13 +106,14 @@ fn is_marked(text: &[u8]) -> bool
     text.starts_with(b"\xEF\xBB\xBF")
 }
 
-fn add_look(out: &mut Vec<u8>, wanted: File, ended: bool, words: &[&[u8]]) -> Result<(), AllocError>
-    ensures { OnOk result (out.new.items ≡ out.old.items ++ look_told wanted ended (map (λ w. w.now) words.now)) }
+fn look_told(wanted: File, ended: bool, words: &[&[u8]]) -> Option<Told<'static>>
+    ensures { said result ≡ look_told wanted ended (map (λ w. w.now) words.now) }
 {
     if is_like(look_of(wanted), words) {
-        return Ok(());
+        None
+    } else {
+        unlike(look_of(wanted), look_in(ended, words))
     }
-    add_unlike(out, look_of(wanted), look_in(ended, words))
 }
 
 // What a file of this sort looks like.
@@ -126,26 +127,20 @@ fn look_of(file: File) -> Look
     }
 }
 
-fn add_unlike(out: &mut Vec<u8>, wanted: Look, look: Option<Look>) -> Result<(), AllocError>
-    ensures { OnOk result (out.new.items ≡ out.old.items ++ unlike wanted look) }
+fn unlike(wanted: Look, look: Option<Look>) -> Option<Told<'static>>
+    ensures { said result ≡ unlike wanted look }
 {
-    let Some(look) = look else { return Ok(()) };
-    out.extend_from_slice(b"hint: this file looks like ")?;
-    out.extend_from_slice(called(look))?;
-    out.extend_from_slice(b", not like ")?;
-    out.extend_from_slice(called(wanted))?;
-    out.push(b'\n')?;
-    Ok(())
+    Some(Told::Two(words::UNLIKE, Raw(called(look?)), Raw(called(wanted))))
 }
 
 fn called(look: Look) -> &'static [u8]
     ensures { result.now ≡ called look }
 {
     match look {
-        Look::Program => b"a program",
-        Look::Inputs => b"inputs",
-        Look::Script => b"a script",
-        Look::Log => b"the log of a run",
+        Look::Program => words::PROGRAM,
+        Look::Inputs => words::INPUTS,
+        Look::Script => words::SCRIPT,
+        Look::Log => words::LOG,
     }
 }
 
@@ -174,8 +169,8 @@ fn is_like(look: Look, words: &[&[u8]]) -> bool
     };
     match look {
         Look::Program => begins_program(word) || (begins_declaration(word) && is_declared(more)),
-        Look::Script => begins_statement(word),
-        Look::Inputs => !begins_program(word) && are_values(more),
+        Look::Script => statement_of(word).is_some(),
+        Look::Inputs => !begins_program(word) && (!more.is_empty() && !has(Sought::NoValue, more)),
         Look::Log => is_number(word) && is_note(more),
     }
 }
@@ -199,11 +194,10 @@ fn begins_program(word: &[u8]) -> bool
 fn begins_declaration(word: &[u8]) -> bool
     ensures { result ≡ begins_declaration word.now }
 {
-    word == b"clock".as_slice()
-        || (word == b"temporal".as_slice()
-            || (word == b"input".as_slice()
-                || (word == b"stream".as_slice()
-                    || (word == b"agent".as_slice() || word == b"int".as_slice()))))
+    matches!(
+        word,
+        b"clock" | b"temporal" | b"input" | b"stream" | b"agent" | b"int"
+    )
 }
 
 // Does no number stand behind a name?
@@ -214,30 +208,4 @@ fn is_declared(words: &[&[u8]]) -> bool
         [_, word, ..] => !is_number(word),
         _ => false,
     }
-}
-
-fn are_values(words: &[&[u8]]) -> bool
-    ensures { result ≡ are_values (map (λ w. w.now) words.now) }
-{
-    !words.is_empty() && all_values(words)
-}
-
-fn all_values(words: &[&[u8]]) -> bool
-    ensures { result ≡ list_all is_value (map (λ w. w.now) words.now) }
-{
-    let mut rest = words;
-    'each: while let [word, more @ ..] = rest {
-        if !is_value(word) {
-            return false;
-        }
-        rest = more;
-    }
-    true
-}
-
-/// Does a line of a script begin with this word?
-pub fn begins_statement(word: &[u8]) -> bool
-    ensures { result ≡ begins_statement word.now }
-{
-    word == b"stall".as_slice() || (word == b"order".as_slice() || word == b"round".as_slice())
 }

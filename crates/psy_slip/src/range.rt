@@ -1,155 +1,84 @@
 //! Which number of a line is out of its range.
-ghost use Rattle.std.specs.Prelude.{◌≡◌, ◌++◌, OnOk, find, map};
-ghost use Rattle.std.specs.Option.{option_copied};
-ghost use Rattle.psy_slip.specs.Ranges.{cycles_range, listing_range, numbers_range, order_range, processors_range, round_range};
-ghost use Rattle.psy_slip.specs.Ranges.{stall_range, statement_range};
-ghost use Rattle.psy_slip.specs.Numbers.{is_beyond};
+ghost use Rattle.std.specs.Prelude.{◌≡◌, map};
+ghost use Rattle.psy_page.specs.Told.{said};
+ghost use Rattle.psy_slip.specs.Ranges.{from_range, listing_range, numbers_range, processors_range, stall_range, statement_range};
 
-use crate::numbers::{greatest, is_above, is_beyond, is_nothing};
-use crate::told::{add_of, add_of_word};
+use crate::numbers::{greatest, is_above, is_nothing};
+use crate::sentences as words;
+use crate::sought::{Sought, first_of};
+use crate::statement::{Statement, statement_of};
 use psy_base::limits::{RUN, STALL};
-use std::alloc::AllocError;
+use psy_page::{Told, about, about_some, first_told};
 
-/// Adds the first value of a line of inputs that has more than 32 bits.
-pub fn add_listing_range(out: &mut Vec<u8>, words: &[&[u8]]) -> Result<(), AllocError>
-    ensures { OnOk result (out.new.items ≡ out.old.items ++ listing_range (map (λ w. w.now) words.now)) }
+/// The first value of a line of inputs that has more than 32 bits.
+pub fn listing_range<'a>(words: &[&'a [u8]]) -> Option<Told<'a>>
+    ensures { said result ≡ listing_range (map (λ w. w.now) words.now) }
 {
     match words {
-        [] => Ok(()),
-        [_, values @ ..] => add_of_word(
-            out,
-            first_beyond(values),
-            b" is out of range: a value is -2147483648 to 2147483647",
-        ),
+        [] => None,
+        [_, values @ ..] => about_some(words::VALUE_RANGE, first_of(Sought::Beyond, values)),
     }
 }
 
-fn first_beyond<'a>(words: &[&'a [u8]]) -> Option<&'a [u8]>
-    ensures { option_copied result ≡ find is_beyond (map (λ w. w.now) words.now) }
-{
-    let mut rest = words;
-    'each: while let [word, more @ ..] = rest {
-        if is_beyond(word) {
-            return Some(word);
-        }
-        rest = more;
-    }
-    None
-}
-
-/// Adds the first number of a line of a script that is out of its range.
-pub fn add_statement_range(out: &mut Vec<u8>, words: &[&[u8]]) -> Result<(), AllocError>
-    ensures { OnOk result (out.new.items ≡ out.old.items ++ statement_range (map (λ w. w.now) words.now)) }
+/// The first number of a line of a script that is out of its range.
+pub fn statement_range<'a>(words: &[&'a [u8]]) -> Option<Told<'a>>
+    ensures { said result ≡ statement_range (map (λ w. w.now) words.now) }
 {
     match words {
-        [] => Ok(()),
-        [word, behind @ ..] => {
-            if *word == b"stall".as_slice() {
-                add_stall_range(out, behind)
-            } else if *word == b"order".as_slice() {
-                add_order_range(out, behind)
-            } else if *word == b"round".as_slice() {
-                add_round_range(out, behind)
-            } else {
-                Ok(())
-            }
-        }
+        [] => None,
+        [word, behind @ ..] => match statement_of(word)? {
+            Statement::Stall => stall_range(behind),
+            Statement::Order => from_range(words::ORDER_RANGE, behind),
+            Statement::Round => first_told(&[
+                from_range(words::ROUND_RANGE, behind),
+                processors_range(behind),
+            ]),
+        },
     }
 }
 
 #[tactic(auto, unfolding(crate::specs::Ranges::stall_range))]
-fn add_stall_range(out: &mut Vec<u8>, words: &[&[u8]]) -> Result<(), AllocError>
-    ensures { OnOk result (out.new.items ≡ out.old.items ++ stall_range (map (λ w. w.now) words.now)) }
+fn stall_range<'a>(words: &[&'a [u8]]) -> Option<Told<'a>>
+    ensures { said result ≡ stall_range (map (λ w. w.now) words.now) }
 {
     match words {
-        [_, action, instr, cycles] => add_numbers_range(out, action, instr, cycles),
-        _ => Ok(()),
+        [_, action, instr, cycles] => numbers_range(action, instr, cycles),
+        _ => None,
     }
 }
 
-fn add_numbers_range(
-    out: &mut Vec<u8>,
-    action: &[u8],
-    instr: &[u8],
-    cycles: &[u8],
-) -> Result<(), AllocError>
-    ensures { OnOk result (out.new.items ≡ out.old.items ++ numbers_range action.now instr.now cycles.now) }
+fn numbers_range<'a>(action: &'a [u8], instr: &'a [u8], cycles: &'a [u8]) -> Option<Told<'a>>
+    ensures { said result ≡ numbers_range action.now instr.now cycles.now }
 {
     if is_above(STALL, action) {
-        add_of(
-            out,
-            action,
-            b" is out of range: the number of an action is at most 1000000",
-        )
+        Some(about(words::ACTION_RANGE, action))
     } else if is_above(STALL, instr) {
-        add_of(
-            out,
-            instr,
-            b" is out of range: the number of an instruction is at most 1000000",
-        )
+        Some(about(words::INSTRUCTION_RANGE, instr))
+    } else if is_nothing(cycles) || is_above(STALL, cycles) {
+        Some(about(words::CYCLES_RANGE, cycles))
     } else {
-        add_cycles_range(out, cycles)
+        None
     }
 }
 
-fn add_cycles_range(out: &mut Vec<u8>, cycles: &[u8]) -> Result<(), AllocError>
-    ensures { OnOk result (out.new.items ≡ out.old.items ++ cycles_range cycles.now) }
-{
-    if is_nothing(cycles) || is_above(STALL, cycles) {
-        add_of(
-            out,
-            cycles,
-            b" is out of range: a stall takes 1 to 1000000 cycles",
-        )
-    } else {
-        Ok(())
-    }
-}
-
-#[tactic(auto, unfolding(crate::specs::Ranges::order_range))]
-fn add_order_range(out: &mut Vec<u8>, words: &[&[u8]]) -> Result<(), AllocError>
-    ensures { OnOk result (out.new.items ≡ out.old.items ++ order_range (map (λ w. w.now) words.now)) }
+// The cycle from which an order or a round holds, with this told of it.
+#[tactic(auto, unfolding(crate::specs::Ranges::from_range))]
+fn from_range<'a>(told: &'static [u8], words: &[&'a [u8]]) -> Option<Told<'a>>
+    ensures { said result ≡ from_range told.now (map (λ w. w.now) words.now) }
 {
     match words {
-        [cycle, ..] if is_above(RUN, cycle) => add_of(
-            out,
-            cycle,
-            b" is out of range: an order holds from a cycle of at most 100000000 on",
-        ),
-        _ => Ok(()),
+        [cycle, ..] if is_above(RUN, cycle) => Some(about(told, cycle)),
+        _ => None,
     }
 }
 
-#[tactic(auto, unfolding(crate::specs::Ranges::round_range))]
-fn add_round_range(out: &mut Vec<u8>, words: &[&[u8]]) -> Result<(), AllocError>
-    ensures { OnOk result (out.new.items ≡ out.old.items ++ round_range (map (λ w. w.now) words.now)) }
+// The greatest of the numbers of a round.
+#[tactic(auto, unfolding(crate::specs::Ranges::processors_range))]
+fn processors_range<'a>(words: &[&'a [u8]]) -> Option<Told<'a>>
+    ensures { said result ≡ processors_range (map (λ w. w.now) words.now) }
 {
     match words {
-        [] => Ok(()),
-        [cycle, numbers @ ..] => {
-            if is_above(RUN, cycle) {
-                add_of(
-                    out,
-                    cycle,
-                    b" is out of range: a round holds from a cycle of at most 100000000 on",
-                )
-            } else {
-                add_processors_range(out, numbers)
-            }
-        }
-    }
-}
-
-// Adds the greatest number of a round.
-fn add_processors_range(out: &mut Vec<u8>, numbers: &[&[u8]]) -> Result<(), AllocError>
-    ensures { OnOk result (out.new.items ≡ out.old.items ++ processors_range (map (λ w. w.now) numbers.now)) }
-{
-    match numbers {
-        [] => Ok(()),
-        [word, words @ ..] => add_of(
-            out,
-            greatest(word, words),
-            b" is no processor of the program",
-        ),
+        [_, word, more @ ..] => Some(about(words::NO_PROCESSOR, greatest(word, more))),
+        _ => None,
     }
 }

@@ -1,6 +1,6 @@
 -- The rows that are told of notes one by one are those of the table.
-use Rattle.std.proofs.Common.{◌≡◌, ◌∙◌, ◌⊎◌, inl, inr, refl, sym, ap, subst, ℕ, true, false, List, [], ◌∷◌, ◌++◌, take, length, Option, None, Some, append_assoc, append-nil}
-use Rattle.std.specs.Prelude.{Bool, IsTrue, decimal, codes}
+use Rattle.std.proofs.Common.{◌≡◌, ◌∙◌, ◌⊎◌, inl, inr, refl, sym, ap, subst, ℕ, true, false, List, [], ◌∷◌, ◌++◌, Option, None, Some, append_assoc, append-nil}
+use Rattle.std.specs.Prelude.{Bool, decimal, codes}
 use Rattle.std.proofs.lemmas.Bool.{false≢true}
 use Rattle.psy_door.specs.Files.{Files}
 use Rattle.psy_door.specs.Growth.{Grew, GrewByFront}
@@ -14,17 +14,17 @@ use Rattle.psy_passes.specs.declared.listed.Listed.{Listed}
 use Rattle.psy_passes.specs.Logs.{IsLog}
 use Rattle.psy_passes.specs.Runs.{IsRun, tail_of}
 use Rattle.psy_passes.specs.Telling.{Told, told_nothing, told_more}
-use Rattle.psy_passes.proofs.lemmas.Growth.{front_behind, front_longer, grew_more}
+use Rattle.psy_passes.proofs.lemmas.Growth.{front_behind, grew_more}
 use Rattle.psy_passes.specs.NameChecks.{AreNamesOf}
-use Rattle.psy_passes.specs.Outcomes.{Begins, IsFileText}
+use Rattle.psy_passes.specs.Outcomes.{IsFileText}
 use Rattle.psy_table.specs.declared.rows.RowTeller.{RowTeller}
 use Rattle.psy_table.specs.declared.table.Table.{Table}
-use Rattle.psy_table.specs.Cells.{messages_text, stop_text, value_text}
+use Rattle.psy_table.specs.Cells.{messages_text, value_text}
 use Rattle.psy_table.specs.CellsState.{CellsState, cells_of}
 use Rattle.psy_table.specs.Fields.{fields}
 use Rattle.psy_table.specs.Rows.{Columns, columns_of, csv_of, date_of, heading, last_of, row_of, row_text, rows, today_of}
 use Rattle.psy_table.specs.Stands.{TableStands, columns_in, row_in}
-use Rattle.psy_table.specs.Streams.{TableFront, TellsRow, csv_under, ended_before, ended_row}
+use Rattle.psy_table.specs.Streams.{TableFront, TellsRow, ended_before, ended_row}
 
 -- ---- rows of cells
 

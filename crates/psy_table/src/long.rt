@@ -1,5 +1,5 @@
 //! The table of a run of any length.
-ghost use Rattle.std.specs.Prelude.{◌≡◌, ◌≢◌, ◌≤◌, ℕ, List, None, IfErr, IfOk, OnOk};
+ghost use Rattle.std.specs.Prelude.{◌≡◌, ◌≢◌, ◌≤◌, ℕ, List, None, IfErr, OnOk};
 ghost use Rattle.psy_door.specs.Faults.{Rose};
 ghost use Rattle.psy_door.specs.Growth.{Grew, GrewByFront};
 ghost use Rattle.psy_log.specs.declared.note.Note.{Note};
@@ -7,21 +7,21 @@ ghost use Rattle.psy_notes.specs.Texts.{text_of};
 ghost use Rattle.psy_passes.specs.Logs.{IsLog};
 ghost use Rattle.psy_passes.specs.Runs.{IsRun, tail_of};
 ghost use Rattle.psy_passes.specs.Outcomes.{IsOfTelling};
-ghost use Rattle.psy_table.specs.Rows.{csv_of, heading};
-ghost use Rattle.psy_table.specs.Stands.{columns_in};
+ghost use Rattle.psy_table.specs.Rows.{csv_of};
 ghost use Rattle.psy_table.specs.Streams.{TableFront};
 
+use crate::heading::heading_of;
 use crate::rows::RowTeller;
 use crate::table::Table;
-use crate::text::add_heading;
 use psy_base::Memory;
 use psy_door::Sink;
-use psy_passes::{Listed, PassFault, names_of, write_text, write_told};
+use psy_passes::{PassFault, names_of, write_text, write_told};
 use psy_reel::Reel;
-use std::alloc::{AllocError, Global};
+use std::alloc::Global;
 
-/// Writes the table of the run in the file with this name, as `csv` makes it, piece by piece: in memory that doesn't grow with its length. `tail` is
-/// the lines of its end and summary; the run's lines are in form, and its summary lists each name, as `psy_passes::survey` says.
+/// Writes the table of the run in the file with this name, piece by piece: a row for each date at which something is told, with the value of each
+/// variable then, the messages of each stream and the stop of each agent. It takes memory that doesn't grow with the run's length. `tail` is the lines
+/// of its end and summary; the run's lines are in form, and its summary lists each name, as `psy_passes::survey` says.
 pub fn write_csv<R: Reel, S: Sink>(
     alloc: Global,
     reel: &mut R,
@@ -67,13 +67,4 @@ pub fn write_csv<R: Reel, S: Sink>(
         Ok(_) => Ok(()),
         Err(fault) => Err(fault),
     }
-}
-
-// The names of the columns.
-fn heading_of(alloc: Global, listed: &Listed) -> Result<Vec<u8>, AllocError>
-    ensures { IfOk result (λ text. text.items ≡ heading (columns_in listed.now)) }
-{
-    let mut text = Vec::new(alloc);
-    add_heading(alloc, &mut text, listed)?;
-    Ok(text)
 }

@@ -1,12 +1,11 @@
 //! Rows of a run whose notes come one by one.
 ghost use Rattle.std.specs.Prelude.{◌≡◌, ◌++◌, List, OnOk};
 ghost use Rattle.psy_log.specs.declared.note.Note.{Note as Said};
-ghost use Rattle.psy_table.specs.Rows.{Columns, today_of};
+ghost use Rattle.psy_table.specs.Rows.{Columns, date_of, is_that, today_of};
 ghost use Rattle.psy_table.specs.Stands.{TableStands};
 ghost use Rattle.psy_table.specs.Streams.{TellsRow, ended_before, ended_row};
 
 use crate::table::Table;
-use crate::text::{date_of, is_that};
 use psy_log::Note;
 use psy_passes::{Tell, TellFault};
 use std::alloc::AllocError;
@@ -62,5 +61,28 @@ fn ended_before(latest: Option<u64>, note: &Note) -> Option<u64>
         None
     } else {
         Some(date)
+    }
+}
+
+// Whether there is a date, and it is that.
+fn is_that(date: u64, other: Option<u64>) -> bool
+    ensures { result ≡ is_that date other }
+{
+    match other {
+        Some(other) => other == date,
+        None => false,
+    }
+}
+
+// The date of a dated note.
+fn date_of(note: &Note) -> Option<u64>
+    ensures { result ≡ date_of note.now }
+{
+    match *note {
+        Note::StopOverrun { date, .. }
+        | Note::StopTrap { date, .. }
+        | Note::Value { date, .. }
+        | Note::Message { date, .. } => Some(date),
+        _ => None,
     }
 }

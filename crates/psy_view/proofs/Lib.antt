@@ -2,6 +2,7 @@
 mod AskedLemmas
 mod ExportLemmas
 mod FilmingLemmas
+mod LogLemmas
 mod PairLemmas
 mod PictureLemmas
 mod PlanLemmas

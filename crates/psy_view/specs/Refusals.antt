@@ -2,12 +2,13 @@
 use Rattle.std.specs.Prelude.{ℕ, if◌then◌else◌, List, [], ◌++◌, codes, decimal}
 use Rattle.psy_claims.specs.declared.fault.Slip.{Slip}
 use Rattle.psy_claims.specs.declared.fault.Slip.TheVariants.{Form, Dates, Name}
+use Rattle.psy_export.specs.Refusals.{more_line}
 use Rattle.psy_show.specs.Lines.{shown}
 use Rattle.psy_slip.specs.Looks.{is_program}
 
 -- It has more bytes than it may have
 abbrev pub long_line : List ℕ → ℕ → List ℕ
-long_line name most = shown name ++ codes ": this file has more than " ++ decimal most ++ codes " bytes\n"
+long_line name most = more_line name most (codes "bytes")
 
 -- What stands behind the name is no line that psyc writes
 abbrev pub no_refusal_line : List ℕ → List ℕ

@@ -8,8 +8,8 @@ use Rattle.psy_text.specs.Lines.{lines_of}
 use Rattle.psy_notes.specs.Stands.{run_begins, graph_begins}
 use Rattle.psy_notes.specs.declared.stand.Stand.{Stand}
 use Rattle.psy_notes.specs.Texts.{IsText, BreaksAt}
-use Rattle.psy_passes.specs.declared.log_fault.LogFault.{LogFault}
-use Rattle.psy_passes.specs.declared.log_fault.LogFault.TheVariants as fault
+use Rattle.psy_passes.specs.declared.fault.PassFault.{PassFault}
+use Rattle.psy_passes.specs.declared.fault.PassFault.TheVariants as fault
 use Rattle.psy_passes.specs.Listing as listing
 use Rattle.psy_passes.specs.Logs.{IsLog}
 use Rattle.psy_table.specs.Rows.{csv_of}
@@ -78,10 +78,11 @@ pub data IsNoLog (name bytes : List ℕ) : List ℕ → Type 0 where
       → IsNoLog name bytes (unlisted_line name line)
 
 -- Why a text of these bytes isn't read as a log
-abbrev pub IsFaultOf : List ℕ → LogFault → Type 0
+abbrev pub IsFaultOf : List ℕ → PassFault → Type 0
 IsFaultOf bytes (fault.Line line) = BreaksAt run_begins bytes line
 IsFaultOf bytes (fault.Unlisted line) = (notes : List Note) × IsText run_begins bytes notes × (listing.first_unlisted notes ≡ Some line)
 IsFaultOf bytes fault.Memory = Unit {0}
+IsFaultOf bytes other = ⊥
 
 -- What is told of two texts: nothing of logs that are the same; the first line in which logs differ; or the first line of one that isn't in form
 pub data IsCompared (name other first second : List ℕ) : ℕ → List ℕ → Type 0 where

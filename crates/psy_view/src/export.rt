@@ -1,11 +1,9 @@
 //! The run in a file in another form.
-ghost use Rattle.std.specs.Prelude.{◌≡◌, ◌≢◌, ◌≤◌, ◌∷◌, [], IfOk};
+ghost use Rattle.std.specs.Prelude.{◌≡◌, ◌≢◌, ◌≤◌};
 ghost use Rattle.psy_view.specs.Outcome.{EndsExport};
-ghost use Rattle.psy_view.specs.Reading.{request_of_export};
-ghost use Rattle.psy_view.specs.Views.{ViewOf};
 
 use crate::asked::TEXT_BYTES;
-use crate::log::{dumped, tabled};
+use crate::log::exported_text;
 use crate::view::View;
 use psy_base::Memory;
 use psy_door::{FetchFault, Sink};
@@ -29,7 +27,7 @@ pub fn exported<R: Reel, S: Sink>(
     ensures sink { S.faults out.old ≤ S.faults out.new }
 {
     match reel.fetch_most(alloc, name, TEXT_BYTES) {
-        Ok(bytes) => match view_in(alloc, name, format, bytes.as_slice()) {
+        Ok(bytes) => match exported_text(alloc, name, format, bytes.as_slice()) {
             Ok(View { status, text }) => say(text.as_slice(), status, out),
             Err(Memory) => 8,
         },
@@ -39,15 +37,5 @@ pub fn exported<R: Reel, S: Sink>(
             Err(AllocError) => 8,
         },
         Err(FetchFault::Memory) => 8,
-    }
-}
-
-// The run in a text in a format.
-fn view_in(alloc: Global, name: &str, format: Format, bytes: &[u8]) -> Result<View, Memory>
-    ensures { IfOk result (λ v. ViewOf (request_of_export name.now format) (bytes.now ∷ []) v.status v.text.items) }
-{
-    match format {
-        Format::Table => tabled(alloc, name, bytes),
-        Format::Dump => dumped(alloc, name, bytes),
     }
 }

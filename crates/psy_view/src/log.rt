@@ -1,41 +1,35 @@
-//! Views of logs: tables, dumps, comparisons, and assertions.
-ghost use Rattle.std.specs.Prelude.{◌≡◌, ◌∷◌, [], ℕ, List, IfOk};
+//! Views of logs: in another form, compared, and tried by assertions.
+ghost use Rattle.std.specs.Prelude.{◌≡◌, ◌≤◌, ◌∷◌, [], ℕ, List, IfOk, length};
 ghost use Rattle.psy_passes.specs.Listing.{streams_in, variables_in};
 ghost use Rattle.psy_passes.specs.Logs.{IsLog};
-ghost use Rattle.psy_view.specs.Asked.{Dump, Table};
+ghost use Rattle.psy_view.specs.declared.asked.TheConstants.{TEXT_BYTES};
+ghost use Rattle.psy_view.specs.Reading.{request_of_export};
 ghost use Rattle.psy_view.specs.Views.{IsCompared, IsExpected, IsFaultOf, IsNoLog, ViewOf};
 
+use crate::asked::TEXT_BYTES;
 use crate::refusals::{broken_text, wrong_line};
 use crate::view::View;
 use psy_base::Memory;
 use psy_claims::{ClaimFault, expect};
 use psy_differ::{DiffFault, diff};
-use psy_export::unlisted_line;
-use psy_passes::{Log, LogFault, read_log};
-use psy_table::csv;
-use psy_wave::vcd;
+use psy_export::{Format, export_text, unlisted_line};
+use psy_passes::laws::many_bytes;
+use psy_passes::{Log, PassFault, read_log};
 use std::alloc::Global;
 
-/// The run in a text as a table.
-#[tactic(auto, using(crate::specs::Views::tabled, crate::specs::Views::no_table))]
-pub fn tabled(alloc: Global, name: &str, bytes: &[u8]) -> Result<View, Memory>
-    ensures { IfOk result (λ v. ViewOf (Table name.now) (bytes.now ∷ []) v.status v.text.items) }
+/// The run in a text in a format.
+#[tactic(auto, using(crate::proofs::LogLemmas::exported_of, crate::proofs::LogLemmas::unexported))]
+pub fn exported_text(
+    alloc: Global,
+    name: &str,
+    format: Format,
+    bytes: &[u8],
+) -> Result<View, Memory>
+    requires { length bytes.now ≤ TEXT_BYTES }
+    ensures { IfOk result (λ v. ViewOf (request_of_export name.now format) (bytes.now ∷ []) v.status v.text.items) }
 {
-    match csv(alloc, bytes) {
-        Ok(text) => Ok(View { status: 0, text }),
-        Err(fault) => Ok(View {
-            status: 1,
-            text: refusal(alloc, name, fault, bytes)?,
-        }),
-    }
-}
-
-/// The run in a text as a value change dump.
-#[tactic(auto, using(crate::specs::Views::dumped, crate::specs::Views::no_dump))]
-pub fn dumped(alloc: Global, name: &str, bytes: &[u8]) -> Result<View, Memory>
-    ensures { IfOk result (λ v. ViewOf (Dump name.now) (bytes.now ∷ []) v.status v.text.items) }
-{
-    match vcd(alloc, bytes) {
+    many_bytes();
+    match export_text(alloc, format, bytes) {
         Ok(text) => Ok(View { status: 0, text }),
         Err(fault) => Ok(View {
             status: 1,
@@ -119,12 +113,16 @@ fn tried(alloc: Global, claims: &str, log: &Log, text: &[u8]) -> Result<View, Me
 
 // The line with which a text that isn't a log is refused.
 #[tactic(auto, using(crate::specs::Views::broken, crate::specs::Views::has_unlisted))]
-fn refusal(alloc: Global, name: &str, fault: LogFault, bytes: &[u8]) -> Result<Vec<u8>, Memory>
-    ensures { IsFaultOf bytes.now fault → IfOk result (λ text. IsNoLog name.now bytes.now text.items) }
+fn refusal(alloc: Global, name: &str, fault: PassFault, bytes: &[u8]) -> Result<Vec<u8>, Memory>
+    requires { IsFaultOf bytes.now fault }
+    ensures { IfOk result (λ text. IsNoLog name.now bytes.now text.items) }
 {
     match fault {
-        LogFault::Line { line } => broken_text(alloc, name.as_bytes(), line, b"run", bytes),
-        LogFault::Unlisted { line } => Ok(unlisted_line(alloc, name.as_bytes(), line)?),
-        LogFault::Memory => Err(Memory),
+        PassFault::Line { line } => broken_text(alloc, name.as_bytes(), line, b"run", bytes),
+        PassFault::Unlisted { line } => Ok(unlisted_line(alloc, name.as_bytes(), line)?),
+        PassFault::Memory => Err(Memory),
+        PassFault::Many | PassFault::Unread | PassFault::Changed | PassFault::Unwritten => {
+            unreachable!()
+        }
     }
 }

@@ -7,6 +7,7 @@ use itoa::Buffer;
 use psy_base::Memory;
 use psy_claims::Slip;
 use psy_draw::Window;
+use psy_export::more_line;
 use psy_show::shown;
 use psy_slip::is_program;
 use psy_text::write::joined;
@@ -16,18 +17,7 @@ use std::alloc::{AllocError, Global};
 pub fn long_line(alloc: Global, name: &[u8], most: usize) -> Result<Vec<u8>, AllocError>
     ensures { IfOk result (λ line. line.items ≡ long_line name.now most) }
 {
-    let mut digits = Buffer::new();
-    let most = digits.format(most as u64).as_bytes();
-    let name = shown(alloc, name)?;
-    joined(
-        alloc,
-        &[
-            name.as_slice(),
-            b": this file has more than ",
-            most,
-            b" bytes\n",
-        ],
-    )
+    more_line(alloc, name, most, b"bytes")
 }
 
 /// What stands behind the name is no line that psyc writes.

@@ -1,5 +1,5 @@
 -- The changes that are told of notes one by one are those of the dump.
-use Rattle.std.proofs.Common.{◌≡◌, ◌∙◌, ◌⊎◌, inl, inr, refl, sym, ap, subst, ℕ, List, [], ◌∷◌, ◌++◌, Option, append_assoc, append-nil}
+use Rattle.std.proofs.Common.{◌≡◌, ◌∙◌, inr, refl, sym, ap, subst, ℕ, List, [], ◌∷◌, ◌++◌, Option, append_assoc, append-nil}
 use Rattle.psy_door.specs.Files.{Files}
 use Rattle.psy_door.specs.Growth.{Grew, GrewByFront}
 use Rattle.psy_log.specs.declared.note.Note.{Note}
@@ -7,13 +7,13 @@ use Rattle.psy_notes.specs.declared.stand.Stand.{Stand}
 use Rattle.psy_notes.specs.Stands.{run_begins}
 use Rattle.psy_notes.specs.Texts.{IsText, Leads, text_of}
 use Rattle.psy_passes.specs.declared.listed.Listed.{Listed}
-use Rattle.psy_passes.specs.Listing.{agents_in, streams_in, variables_in}
+use Rattle.psy_passes.specs.Listing.{streams_in, variables_in}
 use Rattle.psy_passes.specs.Logs.{IsLog}
 use Rattle.psy_passes.specs.Runs.{IsRun, tail_of}
 use Rattle.psy_passes.specs.Telling.{Told, told_nothing, told_more}
 use Rattle.psy_passes.proofs.lemmas.Growth.{front_behind, grew_more}
 use Rattle.psy_passes.specs.NameChecks.{AreNamesOf}
-use Rattle.psy_passes.specs.Outcomes.{Begins, IsFileText}
+use Rattle.psy_passes.specs.Outcomes.{IsFileText}
 use Rattle.psy_wave.specs.declared.teller.ChangeTeller.{ChangeTeller}
 use Rattle.psy_wave.specs.Changes.{change, changes, later, stamp, time_of, vcd_of}
 use Rattle.psy_wave.specs.Heads.{head}

@@ -4,12 +4,8 @@ use Rattle.std.specs.List.{position}
 use Rattle.psy_log.specs.declared.note.Note.{Note}
 use Rattle.psy_log.specs.declared.note.Note.TheVariants as note
 use Rattle.psy_passes.specs.Listing.{agents_in, streams_in, variables_in}
-use Rattle.psy_wave.specs.Codes.{code, word_digits}
+use Rattle.psy_wave.specs.Codes.{valued, vector}
 use Rattle.psy_wave.specs.Heads.{head}
-
--- A vector has a value.
-abbrev pub vector : ℤ → ℕ → ℕ → List ℕ
-vector value kind place = codes "b" ++ word_digits value ++ codes " " ++ code kind place ++ codes "\n"
 
 -- The variable at a place has a new value.
 abbrev pub value_change : Option ℕ → ℤ → List ℕ
@@ -19,12 +15,12 @@ value_change (Some place) value = vector value 118 place
 -- A message of the stream at a place becomes visible: its event happens, and it has that value.
 abbrev pub message : Option ℕ → ℤ → List ℕ
 message None value = []
-message (Some place) value = codes "1" ++ code 101 place ++ codes "\n" ++ vector value 109 place
+message (Some place) value = valued (codes "1") 101 place ++ vector value 109 place
 
 -- The agent at a place is stopped.
 abbrev pub raised : Option ℕ → List ℕ
 raised None = []
-raised (Some place) = codes "1" ++ code 115 place ++ codes "\n"
+raised (Some place) = valued (codes "1") 115 place
 
 -- The place of a name
 abbrev pub place_of : List ℕ → List (List ℕ) → Option ℕ

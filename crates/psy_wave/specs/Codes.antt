@@ -1,5 +1,5 @@
 -- Identifier codes, and values in binary.
-use Rattle.std.specs.Prelude.{ℕ, ℤ, ◌+◌, ◌/◌, ◌%◌, List, [], ◌∷◌, ◌++◌, decimal, zero, suc}
+use Rattle.std.specs.Prelude.{ℕ, ℤ, ◌+◌, ◌/◌, ◌%◌, List, [], ◌∷◌, ◌++◌, codes, decimal, zero, suc}
 use Rattle.std.specs.Int.{cast_unsigned, w32}
 
 -- The identifier code of the thing of a kind at a place: the kind's letter, and the place by its digits
@@ -18,3 +18,11 @@ word number = binary 32 number
 -- A value of 32 bits in binary, in two's complement
 abbrev pub word_digits : ℤ → List ℕ
 word_digits value = word (cast_unsigned w32 value)
+
+-- The thing at a place has this value, as it is written.
+abbrev pub valued : List ℕ → ℕ → ℕ → List ℕ
+valued value kind place = value ++ code kind place ++ codes "\n"
+
+-- A vector has a value.
+abbrev pub vector : ℤ → ℕ → ℕ → List ℕ
+vector value kind place = codes "b" ++ word_digits value ++ valued (codes " ") kind place

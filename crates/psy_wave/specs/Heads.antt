@@ -1,6 +1,6 @@
 -- The head of a dump: the declarations of all that is dumped, and the first values.
 use Rattle.std.specs.Prelude.{ℕ, ◌+◌, List, [], ◌∷◌, ◌++◌, codes, length, zero, suc}
-use Rattle.psy_wave.specs.Codes.{code}
+use Rattle.psy_wave.specs.Codes.{code, valued}
 
 -- The declaration of the thing at a place
 abbrev pub declared : List ℕ → ℕ → ℕ → List ℕ → List ℕ
@@ -15,23 +15,10 @@ declared_from type_text kind place (name ∷ names) = declared type_text kind pl
 unfoldable pub scope : List ℕ → List ℕ → ℕ → List (List ℕ) → List ℕ
 scope title type_text kind names = codes "$scope module " ++ title ++ codes " $end\n" ++ declared_from type_text kind 0 names ++ codes "$upscope $end\n"
 
--- A vector has no value yet.
-abbrev pub first_vector : ℕ → ℕ → List ℕ
-first_vector kind place = codes "bx " ++ code kind place ++ codes "\n"
-
--- So many vectors from a place on have none.
-abbrev pub first_vectors : ℕ → ℕ → ℕ → List ℕ
-first_vectors kind place zero = []
-first_vectors kind place (suc count) = first_vector kind place ++ first_vectors kind (place + 1) count
-
--- A scalar is 0.
-abbrev pub first_scalar : ℕ → ℕ → List ℕ
-first_scalar kind place = codes "0" ++ code kind place ++ codes "\n"
-
--- So many scalars from a place on are 0.
-abbrev pub first_scalars : ℕ → ℕ → ℕ → List ℕ
-first_scalars kind place zero = []
-first_scalars kind place (suc count) = first_scalar kind place ++ first_scalars kind (place + 1) count
+-- So many things from a place on have this value.
+abbrev pub all_valued : List ℕ → ℕ → ℕ → ℕ → List ℕ
+all_valued value kind place zero = []
+all_valued value kind place (suc count) = valued value kind place ++ all_valued value kind (place + 1) count
 
 -- The declarations for variables, streams and agents: a vector for each variable, an event and a vector for each stream, a wire for each agent
 abbrev pub definitions : List (List ℕ) → List (List ℕ) → List (List ℕ) → List ℕ
@@ -43,8 +30,8 @@ definitions variables streams agents =
 -- At time 0 no vector has a value, and no agent is stopped.
 abbrev pub first_values : List (List ℕ) → List (List ℕ) → List (List ℕ) → List ℕ
 first_values variables streams agents =
-    codes "$enddefinitions $end\n#0\n$dumpvars\n" ++ first_vectors 118 0 (length variables) ++ first_vectors 109 0 (length streams)
-    ++ first_scalars 115 0 (length agents) ++ codes "$end\n"
+    codes "$enddefinitions $end\n#0\n$dumpvars\n" ++ all_valued (codes "bx ") 118 0 (length variables) ++ all_valued (codes "bx ") 109 0 (length streams)
+    ++ all_valued (codes "0") 115 0 (length agents) ++ codes "$end\n"
 
 -- The head of a dump
 abbrev pub head : List (List ℕ) → List (List ℕ) → List (List ℕ) → List ℕ

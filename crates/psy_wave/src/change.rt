@@ -1,8 +1,8 @@
 //! What a note changes.
 ghost use Rattle.std.specs.Prelude.{◌≡◌, ◌++◌, OnOk};
-ghost use Rattle.psy_wave.specs.Changes.{change, message, raised, time_of, value_change};
+ghost use Rattle.psy_wave.specs.Changes.{change, message, raised, value_change};
 
-use crate::line::{add_scalar, add_vector};
+use crate::line::{add_value, add_vector};
 use psy_log::Note;
 use psy_passes::Listed;
 use std::alloc::AllocError;
@@ -16,7 +16,7 @@ pub fn add_change(out: &mut Vec<u8>, listed: &Listed, note: &Note) -> Result<(),
             variable,
             value,
             ..
-        } => add_value(out, listed.variables.place(variable), value),
+        } => add_new_value(out, listed.variables.place(variable), value),
         Note::Message { stream, value, .. } => add_message(
             out,
             listed.streams.place(stream),
@@ -30,7 +30,7 @@ pub fn add_change(out: &mut Vec<u8>, listed: &Listed, note: &Note) -> Result<(),
 }
 
 // Adds a variable's new value.
-fn add_value(out: &mut Vec<u8>, place: Option<usize>, value: i32) -> Result<(), AllocError>
+fn add_new_value(out: &mut Vec<u8>, place: Option<usize>, value: i32) -> Result<(), AllocError>
     ensures { OnOk result (out.new.items ≡ out.old.items ++ value_change place value) }
 {
     match place {
@@ -45,7 +45,7 @@ fn add_message(out: &mut Vec<u8>, place: Option<usize>, value: i32) -> Result<()
 {
     match place {
         Some(place) => {
-            add_scalar(out, b'1', b'e', place)?;
+            add_value(out, b"1", b'e', place)?;
             add_vector(out, value, b'm', place)
         }
         None => Ok(()),
@@ -57,21 +57,7 @@ fn add_raised(out: &mut Vec<u8>, place: Option<usize>) -> Result<(), AllocError>
     ensures { OnOk result (out.new.items ≡ out.old.items ++ raised place) }
 {
     match place {
-        Some(place) => add_scalar(out, b'1', b's', place),
+        Some(place) => add_value(out, b"1", b's', place),
         None => Ok(()),
-    }
-}
-
-/// The date of a dated note, or of the end.
-pub fn time_of(note: &Note) -> Option<u64>
-    ensures { result ≡ time_of note.now }
-{
-    match *note {
-        Note::StopOverrun { date, .. }
-        | Note::StopTrap { date, .. }
-        | Note::Value { date, .. }
-        | Note::Message { date, .. } => Some(date),
-        Note::End { until } => Some(until),
-        _ => None,
     }
 }

@@ -1,19 +1,19 @@
 //! The head of a dump: what is dumped, and its first values.
-ghost use Rattle.std.specs.Prelude.{◌≡◌, ◌++◌, OnOk};
-ghost use Rattle.psy_wave.specs.Heads.{declared, declared_from, definitions, head, scope};
-ghost use Rattle.psy_wave.specs.Heads.{first_scalar, first_scalars, first_values, first_vector, first_vectors};
+ghost use Rattle.std.specs.Prelude.{◌≡◌, ◌++◌, IfOk, OnOk};
+ghost use Rattle.psy_wave.specs.Heads.{all_valued, declared, declared_from, definitions, first_values, head, scope};
 
-use crate::line::{add_code, add_scalar};
+use crate::line::{add_code, add_value};
 use psy_passes::{Listed, Names};
-use std::alloc::AllocError;
+use std::alloc::{AllocError, Global};
 
-/// Adds the declarations of all that is dumped, and the first values.
-pub fn add_head(out: &mut Vec<u8>, listed: &Listed) -> Result<(), AllocError>
-    ensures { OnOk result (out.new.items ≡ out.old.items ++ head listed.now.variables listed.now.streams listed.now.agents) }
+/// The declarations of all that is dumped, and the first values.
+pub fn head_of(alloc: Global, listed: &Listed) -> Result<Vec<u8>, AllocError>
+    ensures { IfOk result (λ text. text.items ≡ head listed.now.variables listed.now.streams listed.now.agents) }
 {
-    add_definitions(out, listed)?;
-    add_first_values(out, listed)?;
-    Ok(())
+    let mut text = Vec::new(alloc);
+    add_definitions(&mut text, listed)?;
+    add_first_values(&mut text, listed)?;
+    Ok(text)
 }
 
 // Adds the declarations.
@@ -41,9 +41,9 @@ fn add_first_values(out: &mut Vec<u8>, listed: &Listed) -> Result<(), AllocError
     ensures { OnOk result (out.new.items ≡ out.old.items ++ first_values listed.now.variables listed.now.streams listed.now.agents) }
 {
     out.extend_from_slice(b"$enddefinitions $end\n#0\n$dumpvars\n")?;
-    add_first_vectors(out, b'v', listed.variables.len())?;
-    add_first_vectors(out, b'm', listed.streams.len())?;
-    add_first_scalars(out, b's', listed.agents.len())?;
+    add_values(out, b"bx ", b'v', listed.variables.len())?;
+    add_values(out, b"bx ", b'm', listed.streams.len())?;
+    add_values(out, b"0", b's', listed.agents.len())?;
     out.extend_from_slice(b"$end\n")?;
     Ok(())
 }
@@ -99,40 +99,12 @@ fn add_declaration(
     out.extend_from_slice(b" $end\n")
 }
 
-// Adds that so many vectors have no value yet.
-fn add_first_vectors(out: &mut Vec<u8>, kind: u8, count: usize) -> Result<(), AllocError>
-    ensures { OnOk result (out.new.items ≡ out.old.items ++ first_vectors kind 0 count) }
+// Adds that so many things have this value.
+fn add_values(out: &mut Vec<u8>, value: &[u8], kind: u8, count: usize) -> Result<(), AllocError>
+    ensures { OnOk result (out.new.items ≡ out.old.items ++ all_valued value.now kind 0 count) }
 {
     for place in 0..count {
-        add_first_vector(out, kind, place)?;
+        add_value(out, value, kind, place)?;
     }
-    Ok(())
-}
-
-// Adds that a vector has no value yet.
-fn add_first_vector(out: &mut Vec<u8>, kind: u8, place: usize) -> Result<(), AllocError>
-    ensures { OnOk result (out.new.items ≡ out.old.items ++ first_vector kind place) }
-{
-    out.extend_from_slice(b"bx ")?;
-    add_code(out, kind, place)?;
-    out.push(b'\n')?;
-    Ok(())
-}
-
-// Adds that so many scalars are 0.
-fn add_first_scalars(out: &mut Vec<u8>, kind: u8, count: usize) -> Result<(), AllocError>
-    ensures { OnOk result (out.new.items ≡ out.old.items ++ first_scalars kind 0 count) }
-{
-    for place in 0..count {
-        add_first_scalar(out, kind, place)?;
-    }
-    Ok(())
-}
-
-// Adds that a scalar is 0.
-fn add_first_scalar(out: &mut Vec<u8>, kind: u8, place: usize) -> Result<(), AllocError>
-    ensures { OnOk result (out.new.items ≡ out.old.items ++ first_scalar kind place) }
-{
-    add_scalar(out, b'0', kind, place)?;
     Ok(())
 }

@@ -1,4 +1,4 @@
-//! Writes a run as a value change dump (IEEE 1364-2005, clause 18), which viewers of waveforms read: one in memory, or a file of any length.
+//! Writes a run of any length as a value change dump (IEEE 1364-2005, clause 18), which viewers of waveforms read.
 //! It may know notes of a run, the names that its summary lists, and the passes over long files.
 #![tactic(auto)]
 
@@ -8,7 +8,6 @@ pub mod laws;
 mod line;
 mod long;
 mod teller;
-mod text;
+mod time;
 
 pub use long::write_vcd;
-pub use text::vcd;

@@ -1,6 +1,6 @@
 //! Parts of lines.
-ghost use Rattle.std.specs.Prelude.{◌≡◌, [], ◌∷◌, ◌++◌, OnOk};
-ghost use Rattle.psy_wave.specs.Codes.{code, word, word_digits};
+ghost use Rattle.std.specs.Prelude.{◌≡◌, ◌++◌, OnOk};
+ghost use Rattle.psy_wave.specs.Codes.{code, valued, vector, word};
 
 use psy_text::write::add_number;
 use std::alloc::AllocError;
@@ -13,26 +13,23 @@ pub fn add_code(out: &mut Vec<u8>, kind: u8, place: usize) -> Result<(), AllocEr
     add_number(out, place as u64)
 }
 
-/// Adds a change of a vector: its new value in binary, and its code.
-pub fn add_vector(out: &mut Vec<u8>, value: i32, kind: u8, place: usize) -> Result<(), AllocError>
-    ensures { OnOk result (out.new.items ≡ out.old.items ++ 98 ∷ word_digits value ++ 32 ∷ code kind place ++ 10 ∷ []) }
+/// Adds that a thing has a value: the value as it is written, and the thing's code.
+pub fn add_value(out: &mut Vec<u8>, value: &[u8], kind: u8, place: usize) -> Result<(), AllocError>
+    ensures { OnOk result (out.new.items ≡ out.old.items ++ valued value.now kind place) }
 {
-    out.push(b'b')?;
-    out.extend_from_slice(&digits_of(value.cast_unsigned()))?;
-    out.push(b' ')?;
+    out.extend_from_slice(value)?;
     add_code(out, kind, place)?;
     out.push(b'\n')?;
     Ok(())
 }
 
-/// Adds a change of a scalar: a character for its new value, and its code.
-pub fn add_scalar(out: &mut Vec<u8>, value: u8, kind: u8, place: usize) -> Result<(), AllocError>
-    ensures { OnOk result (out.new.items ≡ out.old.items ++ value ∷ code kind place ++ 10 ∷ []) }
+/// Adds that a vector has a value, which is written in binary.
+pub fn add_vector(out: &mut Vec<u8>, value: i32, kind: u8, place: usize) -> Result<(), AllocError>
+    ensures { OnOk result (out.new.items ≡ out.old.items ++ vector value kind place) }
 {
-    out.push(value)?;
-    add_code(out, kind, place)?;
-    out.push(b'\n')?;
-    Ok(())
+    out.push(b'b')?;
+    out.extend_from_slice(&digits_of(value.cast_unsigned()))?;
+    add_value(out, b" ", kind, place)
 }
 
 // The binary digits of a word, the highest first.

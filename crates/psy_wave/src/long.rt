@@ -1,5 +1,5 @@
 //! The dump of a run of any length.
-ghost use Rattle.std.specs.Prelude.{◌≡◌, ◌≢◌, ◌≤◌, ℕ, List, None, IfErr, IfOk, OnOk};
+ghost use Rattle.std.specs.Prelude.{◌≡◌, ◌≢◌, ◌≤◌, ℕ, List, None, IfErr, OnOk};
 ghost use Rattle.psy_door.specs.Faults.{Rose};
 ghost use Rattle.psy_door.specs.Growth.{Grew, GrewByFront};
 ghost use Rattle.psy_log.specs.declared.note.Note.{Note};
@@ -8,19 +8,19 @@ ghost use Rattle.psy_passes.specs.Logs.{IsLog};
 ghost use Rattle.psy_passes.specs.Runs.{IsRun, tail_of};
 ghost use Rattle.psy_passes.specs.Outcomes.{IsOfTelling};
 ghost use Rattle.psy_wave.specs.Changes.{vcd_of};
-ghost use Rattle.psy_wave.specs.Heads.{head};
 ghost use Rattle.psy_wave.specs.Streams.{DumpFront};
 
-use crate::header::add_head;
+use crate::header::head_of;
 use crate::teller::ChangeTeller;
 use psy_base::Memory;
 use psy_door::Sink;
-use psy_passes::{Listed, PassFault, names_of, write_text, write_told};
+use psy_passes::{PassFault, names_of, write_text, write_told};
 use psy_reel::Reel;
-use std::alloc::{AllocError, Global};
+use std::alloc::Global;
 
-/// Writes the value change dump of the run in the file with this name, as `vcd` makes it, piece by piece: in memory that doesn't grow with its length.
-/// `tail` is the lines of its end and summary; the run's lines are in form, and its summary lists each name, as `psy_passes::survey` says.
+/// Writes the value change dump of the run in the file with this name, piece by piece: at each date what was told of it, in the order of the log. It takes
+/// memory that doesn't grow with the run's length. `tail` is the lines of its end and summary; the run's lines are in form, and its summary lists each name,
+/// as `psy_passes::survey` says.
 pub fn write_vcd<R: Reel, S: Sink>(
     alloc: Global,
     reel: &mut R,
@@ -59,13 +59,4 @@ pub fn write_vcd<R: Reel, S: Sink>(
         Ok(_) => Ok(()),
         Err(fault) => Err(fault),
     }
-}
-
-// The declarations of all that is dumped, and the first values.
-fn head_of(alloc: Global, listed: &Listed) -> Result<Vec<u8>, AllocError>
-    ensures { IfOk result (λ text. text.items ≡ head listed.now.variables listed.now.streams listed.now.agents) }
-{
-    let mut text = Vec::new(alloc);
-    add_head(&mut text, listed)?;
-    Ok(text)
 }

@@ -1,8 +1,8 @@
 //! Changes of a run whose notes come one by one.
 ghost use Rattle.psy_wave.specs.Streams.{TellsChange};
 
-use crate::change::{add_change, time_of};
-use crate::text::{add_stamp, later};
+use crate::change::add_change;
+use crate::time::{add_stamp, later, time_of};
 use psy_log::Note;
 use psy_passes::{Listed, Tell, TellFault};
 

@@ -1,6 +1,6 @@
 -- What the program tells of a line of inputs or of a script with which psyc refused.
 use Rattle.std.specs.Prelude.{◌≡◌, ℕ, List, []}
-use Rattle.psy_beside.specs.Besides.{beside_hint}
+use Rattle.psy_slip.specs.Besides.{beside_hint}
 use Rattle.psy_slip.specs.declared.slip.File.TheVariants as files
 use Rattle.psy_text.specs.Words.{words_of}
 use Rattle.psy_tree.specs.declared.token.Token.{Token}

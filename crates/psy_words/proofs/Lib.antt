@@ -1,3 +1,2 @@
 -- The lemmas of this crate, by subject.
-mod Joined
 mod Mapped

@@ -1,4 +1,4 @@
 -- The definitions of this crate, by subject.
-pub mod Commands
 pub mod Faults
+pub mod Forms
 pub mod Options

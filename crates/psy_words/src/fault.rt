@@ -1,19 +1,17 @@
 //! What is told of words that no command has.
-ghost use Rattle.std.specs.Prelude.{◌≡◌, ◌++◌, ◌∷◌, IfOk, OnOk, Some, map, string_bytes};
+ghost use Rattle.std.specs.Prelude.{◌≡◌, ◌∷◌, IfOk, map, slice_get, string_bytes};
 ghost use Rattle.std.specs.Option.{option_copied};
-ghost use Rattle.psy_words.specs.Commands.{most};
-ghost use Rattle.psy_words.specs.Faults.{before_told, command_told, count_told, date_told, dated_told, extra, fault_lines};
-ghost use Rattle.psy_words.specs.Faults.{fault_told, form_line, is_date, is_few};
-ghost use Rattle.psy_words.specs.Faults.{lack_told, near_told, no_told, timeline_told, unknown_told, words_told};
+ghost use Rattle.psy_page.specs.Told.{said, sentence};
+ghost use Rattle.psy_words.specs.Faults.{count_told, date_told, dated_told, extra, fault_told, form_told, is_date, is_few, is_needed, is_repeated, lack_told};
+ghost use Rattle.psy_words.specs.Faults.{lines, place, second_place, timeline_told, unknown_told, words_told};
 
-use crate::command::{
-    Command, command_of, first_place, form_of, is_of_psyc, least, most, name_of, near_command,
-    second_place,
-};
+use crate::form::{How, form_of, is_of_psyc, name_of};
+use crate::sentences as words;
 use psy_base::Memory;
 use psy_base::limits::UNTIL;
-use psy_slip::told::{add_of, add_of_word, add_quoted};
-use psy_text::word::{is_number, number};
+use psy_page::Piece::{Raw, Shown};
+use psy_page::{Told, about, about_some, add_hint, say};
+use psy_text::word::{is_number, number, words_of};
 use std::alloc::{AllocError, Global};
 
 /// What is told of words that psyview was called with, where they are of no form: in a line the word at fault, or what is missing, and in another the form of
@@ -21,120 +19,102 @@ use std::alloc::{AllocError, Global};
 pub fn words_told(alloc: Global, words: &[String]) -> Result<Vec<u8>, Memory>
     ensures { IfOk result (λ text. text.items ≡ words_told (map string_bytes words.now)) }
 {
-    let mut out = Vec::new(alloc);
     match words {
-        [] => Ok(out),
-        [word, more @ ..] => {
-            add_command(alloc, &mut out, word.as_str().as_bytes(), more)?;
-            Ok(out)
-        }
+        [] => Ok(Vec::new(alloc)),
+        [word, more @ ..] => command_told(alloc, word.as_str().as_bytes(), more),
     }
 }
 
-fn add_command(
-    alloc: Global,
-    out: &mut Vec<u8>,
-    word: &[u8],
-    words: &[String],
-) -> Result<(), AllocError>
-    ensures { OnOk result (out.new.items ≡ out.old.items
-        ++ words_told (word.now ∷ map string_bytes words.now)) }
+fn command_told(alloc: Global, word: &[u8], words: &[String]) -> Result<Vec<u8>, Memory>
+    ensures { IfOk result (λ text. text.items ≡ words_told (word.now ∷ map string_bytes words.now)) }
 {
-    match command_of(word) {
-        None => add_unknown(out, word),
-        Some(command) => {
-            let mut told = Vec::new(alloc);
-            add_fault(&mut told, command, words)?;
-            add_fault_lines(out, command, told.as_slice())
+    match form_of(How::Same, word) {
+        None => {
+            let near = form_of(How::Near, word);
+            Ok(lines(
+                alloc,
+                Some(unknown_told(word, near)),
+                if is_of_psyc(word) { None } else { near },
+            )?)
+        }
+        Some(form) => {
+            let places = words_of(alloc, form)?;
+            Ok(lines(alloc, fault_told(places.as_slice(), words), Some(form))?)
         }
     }
 }
 
-fn add_unknown(out: &mut Vec<u8>, word: &[u8]) -> Result<(), AllocError>
-    ensures { OnOk result (out.new.items ≡ out.old.items ++ unknown_told word.now) }
+// What is told, and the form of the command, where there is one.
+fn lines(alloc: Global, told: Option<Told>, form: Option<&[u8]>) -> Result<Vec<u8>, AllocError>
+    ensures { IfOk result (λ text. text.items ≡ lines (said told.entry) (option_copied form.entry)) }
+{
+    let mut out = Vec::new(alloc);
+    let Some(told) = told else { return Ok(out) };
+    say(&mut out, told)?;
+    out.push(b'\n')?;
+    add_hint(&mut out, form_told(form))?;
+    Ok(out)
+}
+
+fn form_told(form: Option<&[u8]>) -> Option<Told<'_>>
+    ensures { said result ≡ form_told (option_copied form.entry) }
+{
+    Some(Told::One(words::FORM, Raw(form?)))
+}
+
+// What is told of a word that is no command: that it is one of psyc, or the one that it nearly is.
+fn unknown_told<'a>(word: &'a [u8], near: Option<&'a [u8]>) -> Told<'a>
+    ensures { sentence result ≡ unknown_told word.now (option_copied near.entry) }
 {
     if is_of_psyc(word) {
-        add_of(out, word, b" is a command of psyc, and none of psyview\n")
-    } else {
-        add_near(out, word, near_command(word))
+        return about(words::OF_PSYC, word);
     }
-}
-
-fn add_near(out: &mut Vec<u8>, word: &[u8], near: Option<Command>) -> Result<(), AllocError>
-    ensures { OnOk result (out.new.items ≡ out.old.items ++ near_told word.now near) }
-{
     match near {
-        None => add_of(
-            out,
-            word,
-            b" is no command: `psyview --help` tells them all\n",
-        ),
-        Some(command) => {
-            add_of(out, word, b" is no command: is ")?;
-            add_of(out, name_of(command), b" meant?\n")?;
-            add_form_line(out, command)
-        }
+        None => about(words::NO_COMMAND, word),
+        Some(form) => Told::Two(words::NEAR_COMMAND, Shown(word), Shown(name_of(form))),
     }
 }
 
-fn add_form_line(out: &mut Vec<u8>, command: Command) -> Result<(), AllocError>
-    ensures { OnOk result (out.new.items ≡ out.old.items ++ form_line command) }
+fn fault_told<'a>(places: &[&'a [u8]], words: &'a [String]) -> Option<Told<'a>>
+    ensures { said result ≡ fault_told (map (λ p. p.now) places.now) (map string_bytes words.now) }
 {
-    out.extend_from_slice(b"hint: the form is `psyview ")?;
-    out.extend_from_slice(form_of(command))?;
-    out.extend_from_slice(b"`\n")?;
-    Ok(())
-}
-
-// What is told, and the form of the command; nothing where nothing is told.
-fn add_fault_lines(out: &mut Vec<u8>, command: Command, told: &[u8]) -> Result<(), AllocError>
-    ensures { OnOk result (out.new.items ≡ out.old.items ++ fault_lines command told.now) }
-{
-    if told.is_empty() {
-        return Ok(());
+    if place(places, 2) == b"UNTIL".as_slice() {
+        dated_told(places, words)
+    } else if place(places, 0) == b"timeline".as_slice() {
+        Some(timeline_told(places, words))
+    } else {
+        count_told(places, words)
     }
-    out.extend_from_slice(told)?;
-    out.push(b'\n')?;
-    add_form_line(out, command)
 }
 
-fn add_fault(out: &mut Vec<u8>, command: Command, words: &[String]) -> Result<(), AllocError>
-    ensures { OnOk result (out.new.items ≡ out.old.items ++ fault_told command (map string_bytes words.now)) }
+// The word of a form of this number, from 0.
+fn place<'a>(places: &[&'a [u8]], number: usize) -> &'a [u8]
+    ensures { result.now ≡ place (map (λ p. p.now) places.now) number }
 {
-    match command {
-        Command::Run | Command::Check | Command::Report => add_dated(out, command, words),
-        Command::Timeline => add_timeline(out, words),
-        Command::Where
-        | Command::Csv
-        | Command::Vcd
-        | Command::Diff
-        | Command::Expect
-        | Command::Dot
-        | Command::Flow
-        | Command::Listing
-        | Command::Help
-        | Command::Version => add_count(out, command, words),
+    match places.get(number) {
+        Some(place) => place,
+        None => b"",
     }
 }
 
 // What is wrong with the words behind a command of which the second is a date.
-fn add_dated(out: &mut Vec<u8>, command: Command, words: &[String]) -> Result<(), AllocError>
-    ensures { OnOk result (out.new.items ≡ out.old.items ++ dated_told command (map string_bytes words.now)) }
+fn dated_told<'a>(places: &[&'a [u8]], words: &'a [String]) -> Option<Told<'a>>
+    ensures { said result ≡ dated_told (map (λ p. p.now) places.now) (map string_bytes words.now) }
 {
     match words {
-        [] => add_lack(out, command, words),
+        [] => Some(lack_told(places, words)),
         [program] => {
             if is_number(program.as_str().as_bytes()) {
-                add_before(out, program.as_str().as_bytes())
+                Some(about(words::BEFORE, program.as_str().as_bytes()))
             } else {
-                add_lack(out, command, words)
+                Some(lack_told(places, words))
             }
         }
         [program, until, ..] => {
             if is_date(until.as_str().as_bytes()) {
-                add_count(out, command, words)
+                count_told(places, words)
             } else {
-                add_date(out, program.as_str().as_bytes(), until.as_str().as_bytes())
+                Some(date_told(program.as_str().as_bytes(), until.as_str().as_bytes()))
             }
         }
     }
@@ -147,72 +127,77 @@ fn is_date(word: &[u8]) -> bool
     number(word).is_some_and(|n| n <= u64::from(UNTIL))
 }
 
-fn add_before(out: &mut Vec<u8>, date: &[u8]) -> Result<(), AllocError>
-    ensures { OnOk result (out.new.items ≡ out.old.items ++ before_told date.now) }
-{
-    out.extend_from_slice(b"before the date ")?;
-    add_of(out, date, b" stands the program")
-}
-
-fn add_date(out: &mut Vec<u8>, program: &[u8], until: &[u8]) -> Result<(), AllocError>
-    ensures { OnOk result (out.new.items ≡ out.old.items ++ date_told program.now until.now) }
+fn date_told<'a>(program: &'a [u8], until: &'a [u8]) -> Told<'a>
+    ensures { sentence result ≡ date_told program.now until.now }
 {
     if is_number(until) {
-        add_of(out, until, b" is too great: 1000000 is the last date")
+        about(words::TOO_GREAT, until)
     } else if is_number(program) {
-        add_before(out, program)
+        about(words::BEFORE, program)
     } else {
-        add_of(
-            out,
-            until,
-            b" is no date: a date is 1 to 12 digits, and at most 1000000",
-        )
+        about(words::NO_DATE, until)
     }
 }
 
-fn add_timeline(out: &mut Vec<u8>, words: &[String]) -> Result<(), AllocError>
-    ensures { OnOk result (out.new.items ≡ out.old.items ++ timeline_told (map string_bytes words.now)) }
+fn timeline_told<'a>(places: &[&'a [u8]], words: &'a [String]) -> Told<'a>
+    ensures { sentence result ≡ timeline_told (map (λ p. p.now) places.now) (map string_bytes words.now) }
 {
     match words {
-        [] => add_lack(out, Command::Timeline, words),
-        [_, ..] => out.extend_from_slice(
-            b"behind the log stand files, each with a `.` or a `/` in its name, then two dates, and then names: all dates but these two are out of place",
-        ),
+        [] => lack_told(places, words),
+        [_, ..] => Told::Plain(words::TIMELINE),
     }
-}
-
-// Do fewer words stand behind a command than it needs?
-#[tactic(auto, using(crate::proofs::Mapped::length_of_map))]
-fn is_few(command: Command, words: &[String]) -> bool
-    ensures { result ≡ is_few command (map string_bytes words.now) }
-{
-    words.len() < least(command)
 }
 
 // Too few or too many words stand behind a command.
-fn add_count(out: &mut Vec<u8>, command: Command, words: &[String]) -> Result<(), AllocError>
-    ensures { OnOk result (out.new.items ≡ out.old.items ++ count_told command (map string_bytes words.now)) }
+fn count_told<'a>(places: &[&'a [u8]], words: &'a [String]) -> Option<Told<'a>>
+    ensures { said result ≡ count_told (map (λ p. p.now) places.now) (map string_bytes words.now) }
 {
-    if is_few(command, words) {
-        add_lack(out, command, words)
+    if is_few(places, words) {
+        Some(lack_told(places, words))
     } else {
-        add_of_word(out, extra(command, words), b" is one word too many")
+        about_some(words::EXTRA, extra(places, words))
     }
 }
 
-// The first word that is one too many.
-fn extra(command: Command, words: &[String]) -> Option<&[u8]>
-    ensures { option_copied result ≡ extra (most command) (map string_bytes words.now) }
+// Is the first place without a word one that isn't left out?
+#[tactic(auto, using(crate::proofs::Mapped::length_of_map))]
+fn is_few(places: &[&[u8]], words: &[String]) -> bool
+    ensures { result ≡ is_few (map (λ p. p.now) places.now) (map string_bytes words.now) }
 {
-    match most(command) {
-        None => None,
-        Some(many) => word(words, many),
+    is_needed(place(places, words.len() + 1))
+}
+
+fn is_needed(place: &[u8]) -> bool
+    ensures { result ≡ is_needed place.now }
+{
+    match place {
+        [first, ..] => *first != b'[',
+        [] => false,
     }
+}
+
+// The first word that is one too many, where the last place isn't filled more than once.
+#[tactic(auto, using(crate::proofs::Mapped::length_of_map))]
+fn extra<'a>(places: &[&[u8]], words: &'a [String]) -> Option<&'a [u8]>
+    ensures { option_copied result ≡ extra (map (λ p. p.now) places.now) (map string_bytes words.now) }
+{
+    let behind = places.len().saturating_sub(1);
+    if is_repeated(place(places, behind)) {
+        None
+    } else {
+        word(words, behind)
+    }
+}
+
+fn is_repeated(place: &[u8]) -> bool
+    ensures { result ≡ is_repeated place.now }
+{
+    place.iter().any(|b| *b == b'.')
 }
 
 // The word of this number.
 fn word(words: &[String], number: usize) -> Option<&[u8]>
-    ensures { option_copied result ≡ extra (Some number) (map string_bytes words.now) }
+    ensures { option_copied result ≡ slice_get (map string_bytes words.now) number }
 {
     match words.get(number) {
         Some(word) => Some(word.as_str().as_bytes()),
@@ -221,21 +206,33 @@ fn word(words: &[String], number: usize) -> Option<&[u8]>
 }
 
 // The first or the second word behind a command is missing.
-fn add_lack(out: &mut Vec<u8>, command: Command, words: &[String]) -> Result<(), AllocError>
-    ensures { OnOk result (out.new.items ≡ out.old.items ++ lack_told command (map string_bytes words.now)) }
+fn lack_told<'a>(places: &[&'a [u8]], words: &'a [String]) -> Told<'a>
+    ensures { sentence result ≡ lack_told (map (λ p. p.now) places.now) (map string_bytes words.now) }
 {
     match words {
-        [] => add_no(out, first_place(command), name_of(command)),
-        [word, ..] => add_no(out, second_place(command), word.as_str().as_bytes()),
+        [] => Told::Two(
+            words::MISSING,
+            Raw(place(places, 1)),
+            Shown(place(places, 0)),
+        ),
+        [word, ..] => Told::Two(
+            words::MISSING,
+            Raw(second_place(places)),
+            Shown(word.as_str().as_bytes()),
+        ),
     }
 }
 
-fn add_no(out: &mut Vec<u8>, place: &[u8], word: &[u8]) -> Result<(), AllocError>
-    ensures { OnOk result (out.new.items ≡ out.old.items ++ no_told place.now word.now) }
+// What is missing behind the first word.
+fn second_place<'a>(places: &[&'a [u8]]) -> &'a [u8]
+    ensures { result.now ≡ second_place (map (λ p. p.now) places.now) }
 {
-    out.extend_from_slice(b"no ")?;
-    out.extend_from_slice(place)?;
-    out.extend_from_slice(b" stands behind ")?;
-    add_quoted(out, word)?;
-    Ok(())
+    let name = place(places, 0);
+    if name == b"where".as_slice() {
+        words::LINE
+    } else if name == b"diff".as_slice() {
+        words::SECOND_LOG
+    } else {
+        place(places, 2)
+    }
 }

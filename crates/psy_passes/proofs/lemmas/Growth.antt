@@ -1,5 +1,5 @@
 -- How the bytes of a sink grow over several writes.
-use Rattle.std.proofs.Common.{◌≡◌, ◌∙◌, sym, ap, subst, ℕ, ◌+◌, min, List, [], ◌++◌, take, length, Option, None, Some, append_assoc, append-nil, arith}
+use Rattle.std.proofs.Common.{◌∙◌, sym, ap, subst, ℕ, ◌+◌, min, List, [], ◌++◌, take, length, Option, None, Some, append_assoc, append-nil, arith}
 use Rattle.std.proofs.lemmas.List.{take-append-le, take_min}
 use Rattle.std.proofs.Math.Seq.{take-append-add, take-length}
 use Rattle.psy_door.specs.Growth.{Grew, GrewByFront}

@@ -10,5 +10,5 @@ returns c =
     let P : ℤ → Type 0 = λ z. c.y_of-y.result ≡ y_in c.args.span z in
     let fits : SFits w32 c.args.first.now.first = search rules in
     let first = subst P (clean c.args.first.now.first fits) c.y_of-y.ensures.place in
-    rw (c.in_ok-put_silent.ensures, c.in_ok-put-2.ensures, c.in_ok-y-2.ensures.1, c.in_ok-y-2.ensures.0, c.in_ok-y.ensures.1, c.in_ok-y.ensures.0, c.in_ok-put.ensures, first)
+    rw (c.in_ok-put_dashes.ensures, c.in_ok-fill-2.ensures, c.in_ok-y-2.ensures.1, c.in_ok-y-2.ensures.0, c.in_ok-y.ensures.1, c.in_ok-y.ensures.0, c.in_ok-fill.ensures, first)
     (simp append_assoc)

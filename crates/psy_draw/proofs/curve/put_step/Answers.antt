@@ -14,5 +14,5 @@ returns c =
     let first = subst P (clean c.args.column.now.first fits) c.y_of.ensures.place in (
       number_else _ _ _ _ goes c.in_ok-y-2.ensures.0,
       text_else _ c.args.page.now _ c.put_stroke.new.page goes
-          (rw (c.in_ok-y-2.ensures.1, c.in_ok-y.ensures.1, c.in_ok-y.ensures.0, c.in_ok-put.ensures, first) (simp append_assoc)),
+          (rw (c.in_ok-y-2.ensures.1, c.in_ok-y.ensures.1, c.in_ok-y.ensures.0, c.in_ok-fill.ensures, first) (simp append_assoc)),
     )

@@ -1,5 +1,5 @@
 -- What is left of the proof of `picture::filled`.
-use Rattle.std.proofs.Common.{map, refl, sym, subst, ◌∙◌}
+use Rattle.std.proofs.Common.{[], map, refl, sym, subst, ◌∙◌}
 use Rattle.std.specs.Prelude.{string_bytes}
 use Rattle.psy_draw.specs.Gathering.{asks_stream, asks_variable, first_values}
 use Rattle.psy_draw.specs.Homes.{housed_of}
@@ -20,5 +20,5 @@ returns-clause-picture c =
     let notes = c.args.notes.now in
     let scale = c.args.scale.now in
     let first = first_values scale.from notes in
-    let gathers = c.in_ok-add_all.ensures.gathers first c.requires.known (c.in_ok-gathering.ensures.none (map housed_of c.args.asked.known.homes.now) first c.requires.firsts) in
+    let gathers = c.in_ok-add_all.ensures.gathers first [] c.requires.known (c.in_ok-gathering.ensures.none (map housed_of c.args.asked.known.homes.now) first c.requires.firsts) in
     ok_more c.picture_of.result (λ svg drawn window is. drawn window notes refl is gathers) c.picture_of.ensures.picture

@@ -2,8 +2,7 @@
 use Rattle.std.proofs.Common.{◌≡◌, ◌++◌, ℕ, subst, ap, ◌∙◌}
 use Rattle.psy_draw.specs.Drawing.{stacked, tells_parts}
 use Rattle.psy_draw.specs.Frames.{bottom_of, inputs_top, left_of, legend_top, picture_height, picture_width}
-use Rattle.psy_draw.specs.Heads.{legend_text}
-use Rattle.psy_draw.specs.Pictures.{dates_text, inputs_group}
+use Rattle.psy_draw.specs.Pictures.{dates_text, inputs_group, legend_text}
 use Rattle.psy_draw.specs.Scales.{place_by}
 use Rattle.psy_draw.specs.Summaries.{tables_height, tables_text, tables_width}
 use Rattle.psy_draw.specs.Titles.{head_text}
@@ -26,10 +25,11 @@ returns c =
     ≡ head_text width height c.args.title.now scale.from scale.to ++ (dates_text scale.from scale.to scale.grain left bottom
     ++ (stacked (place_by scale) (tells_parts lanes) left 56 lanes ++ (inputs_group inputs c.args.inputs.now.text
     ++ (legend_text legend ++ tables_text top agents variables streams)))) in
+    let told = subst (λ t. c.put_lanes.new.page ≡ c.put_dates.new.page ++ stacked (place_by scale) t frame.left 56 lanes) c.tells_parts.ensures c.in_ok-put_lanes.ensures in
     let drawn : P frame.width frame.height frame.left frame.bottom frame.inputs frame.legend frame.tables =
-    six _ _ _ _ _ _ c.put_head.new.page c.put_dates.new.page c.put_lanes.new.page c.put_inputs.new.page c.put_legend.new.page c.put_tables.new.page
+    six _ _ _ _ _ _ c.put_head.new.page c.put_dates.new.page c.put_lanes.new.page c.put_inputs.new.page c.fill.new.self c.put_tables.new.page
     (c.in_ok-put_head.ensures ∙ ap (λ t. t ++ head_text frame.width frame.height c.args.title.now scale.from scale.to) c.new-page.ensures)
-    c.in_ok-put_dates.ensures c.in_ok-put_lanes.ensures c.in_ok-put_inputs.ensures c.in_ok-put_legend.ensures c.in_ok-put_tables.ensures in
+    c.in_ok-put_dates.ensures told c.in_ok-put_inputs.ensures c.in_ok-fill.ensures c.in_ok-put_tables.ensures in
     subst (P wide high (left_of lanes) (bottom_of lanes) (inputs_top lanes) (legend_top lanes lines)) is.tables
     (subst (λ n. P wide high (left_of lanes) (bottom_of lanes) (inputs_top lanes) n frame.tables) is.legend
     (subst (λ n. P wide high (left_of lanes) (bottom_of lanes) n frame.legend frame.tables) is.inputs

@@ -1,5 +1,5 @@
 -- What is left of the proof of `exporting::export`.
-use Rattle.std.proofs.Common.{◌≡◌, ◌∙◌, ap, sym, subst, Err}
+use Rattle.std.proofs.Common.{◌∙◌, ap, sym, subst, Err}
 use Rattle.psy_lists.proofs.lemmas.Results.{err_is}
 use Rattle.psy_door.specs.Faults.{Rose}
 use Rattle.psy_export.specs.Ending.{Ends}

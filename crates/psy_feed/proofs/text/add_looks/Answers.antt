@@ -7,5 +7,5 @@ use Rattle.psy_feed.proofs.text.add_looks.Goals as goal
 pub variables-preserved : goal.variables-preserved
 variables-preserved c =
     let unit = c.args.unit.now in
-    text_more (arrow_text unit) (look_arrows unit) c.args.out.now.items c.variables.out.items c.add_looks_at.new.out.items c.variables.variable
-    c.variables.invariant c.in_ok-add_looks_at.ensures
+    text_more (arrow_text unit) (look_arrows unit) c.args.out.now.items c.variables.out.items c.add_arrows.new.out.items c.variables.variable
+    c.variables.invariant c.in_ok-add_arrows.ensures

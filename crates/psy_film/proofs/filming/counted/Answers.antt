@@ -1,5 +1,5 @@
 -- What is left of the proof of `filming::counted`.
-use Rattle.std.proofs.Common.{Err, ap, map, min, sym, subst}
+use Rattle.std.proofs.Common.{Err, ap, map, sym, subst}
 use Rattle.std.specs.Prelude.{string_bytes}
 use Rattle.psy_draw.specs.Gathering.{Counts, asks_variable}
 use Rattle.psy_draw.specs.Listing.{Lists}

@@ -73,5 +73,5 @@ returns-clause-streams g c =
     subst (Lists (asks_stream (map string_bytes by.names.now)) c.args.ending.summary.now) (sym (c.in_default.ensures.streams ∙ walked.4))
     c.in_ok-of-2.ensures.streams
 
-pub returns-in-Err-add_gathered-clause-late : goal.returns-in-Err-add_gathered-clause-late
-returns-in-Err-add_gathered-clause-late g c = c.in-Ok.ensures.readable (ok_is c.in-Ok.now)
+pub returns-in-Err-add_all-clause-late : goal.returns-in-Err-add_all-clause-late
+returns-in-Err-add_all-clause-late g c = c.in-Ok.ensures.readable (ok_is c.in-Ok.now)

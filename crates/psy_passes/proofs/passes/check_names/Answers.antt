@@ -1,5 +1,5 @@
 -- What is left of the proof of `passes::check_names`.
-use Rattle.std.proofs.Common.{◌≡◌, ◌∙◌, rules, sym, ap, subst, None, Some, Err, arith}
+use Rattle.std.proofs.Common.{◌≡◌, ◌∙◌, sym, ap, subst, None, Some, Err, arith}
 use Rattle.psy_passes.proofs.lemmas.ToldApart.{differ_by, same_by}
 use Rattle.psy_lists.proofs.lemmas.Results.{err_is}
 use Rattle.psy_passes.specs.declared.scan_fault.ScanFault.TheVariants as scan

@@ -1,5 +1,5 @@
 -- What is left of the proof of `passes::write_told`.
-use Rattle.std.proofs.Common.{◌≡◌, ◌∙◌, sym, ap, subst, Err}
+use Rattle.std.proofs.Common.{◌∙◌, sym, ap, subst, Err}
 use Rattle.psy_passes.proofs.lemmas.ToldApart.{differ_by, same_by}
 use Rattle.psy_lists.proofs.lemmas.Results.{err_is}
 use Rattle.psy_passes.specs.declared.scan_fault.ScanFault.TheVariants as scan

@@ -1,5 +1,5 @@
 -- What is left of the proof of `reading::scan`.
-use Rattle.std.proofs.Common.{◌≡◌, ◌≢◌, ◌∙◌, sym, ap, subst, refl, true, false, [], ◌++◌, Ok, length, arith}
+use Rattle.std.proofs.Common.{◌≢◌, ◌∙◌, sym, ap, subst, refl, [], ◌++◌, Ok, length, arith}
 use Rattle.psy_lists.proofs.lemmas.Results.{ok_err}
 use Rattle.psy_notes.specs.Fronts.{NoLine}
 use Rattle.psy_notes.specs.Texts.{text_of}

@@ -10,8 +10,8 @@ returns-then-processor_of-processor-clause-part c =
     let agent = c.args.agent in
     let within = c.args.within in
     let list = c.index-lists-agent.result in
-    let near : agent < length lists = omega (arith, c.requires.count, c.requires.known) in
-    c.part.ensures ∙ ap (λ numbers. get_or numbers within 0) (c.index-lists-agent.is ∙ get_or_default lists agent list [] near)
+    let near : agent < length lists = omega (arith, c.requires.listed.count, c.requires.known) in
+    c.at.ensures ∙ ap (λ numbers. get_or numbers within 0) (c.as_slice.ensures ∙ c.index-lists-agent.is ∙ get_or_default lists agent list [] near)
     ∙ sym (demand_of_own c.args.unit.now lists c.args.processor within agent (sym c.processor_of.ensures ∙ c.if-processor_of-processor.true))
 
 pub returns-else-processor_of-processor-clause-part : goal.returns-else-processor_of-processor-clause-part

@@ -5,5 +5,5 @@ use Rattle.psy_report.proofs.warnings.add_costs_of.Goals as goal
 
 pub points-preserved : goal.points-preserved
 points-preserved c =
-    line_more (cost_text c.args.unit.now c.args.measures.now c.args.number) c.args.out.now.items c.points.out.items c.add_cost.new.out.items
+    line_more (cost_text c.args.agent.now c.args.costs.now) c.args.out.now.items c.points.out.items c.add_cost.new.out.items
     c.points.point c.points.invariant c.in_ok-add_cost.ensures

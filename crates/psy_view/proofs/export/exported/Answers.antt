@@ -4,7 +4,7 @@ use Rattle.psy_view.specs.Outcome.{of_text}
 use Rattle.psy_view.specs.declared.asked.TheConstants.{TEXT_BYTES}
 use Rattle.psy_view.proofs.export.exported.Goals as goal
 
-pub returns-in-Ok-view_in-clause-ends : goal.returns-in-Ok-view_in-clause-ends
-returns-in-Ok-view_in-clause-ends g c =
+pub returns-in-Ok-exported_text-clause-ends : goal.returns-in-Ok-exported_text-clause-ends
+returns-in-Ok-exported_text-clause-ends g c =
     let small : length c.in-Ok.bytes.items ≤ TEXT_BYTES = omega (arith, c.in-Ok.bytes.ok, c.in-Ok.ensures.within) in
-    of_text c.in-Ok.bytes.items _ _ (c.in-Ok.ensures.whole, small) (rw c.as_slice.ensures.value at c.in-Ok-view_in.ensures) (rw c.as_slice-in-Ok-view_in.ensures.value at c.say.ensures.said)
+    of_text c.in-Ok.bytes.items _ _ (c.in-Ok.ensures.whole, small) (rw c.as_slice.ensures.value at c.in-Ok-exported_text.ensures) (rw c.as_slice-in-Ok-exported_text.ensures.value at c.say.ensures.said)

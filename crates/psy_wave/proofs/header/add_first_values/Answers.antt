@@ -6,9 +6,9 @@ pub returns : goal.returns
 returns c =
     rw (
       c.in_ok-extend_from_slice-2.ensures.items,
-      c.in_ok-add_first_scalars.ensures,
-      c.in_ok-add_first_vectors-2.ensures,
-      c.in_ok-add_first_vectors.ensures,
+      c.in_ok-add_values-3.ensures,
+      c.in_ok-add_values-2.ensures,
+      c.in_ok-add_values.ensures,
       c.len.ensures,
       c.len-2.ensures,
       c.len-3.ensures,

@@ -1,7 +1,6 @@
 -- What is left of the proof of `outset::Outset::scale`.
-use Rattle.std.proofs.Common.{◌<◌, ◌≤◌, min, ap, subst, ◌∙◌}
-use Rattle.psy_base.specs.declared.limits.TheConstants.{UNTIL}
-use Rattle.psy_draw.specs.Places.{grain_of, window_end}
+use Rattle.std.proofs.Common.{◌<◌, subst}
+use Rattle.psy_draw.specs.Places.{window_end}
 use Rattle.psy_draw.proofs.Pictured.{scale_counted}
 use Rattle.psy_draw.proofs.outset.Outset.scale.Goals as goal
 

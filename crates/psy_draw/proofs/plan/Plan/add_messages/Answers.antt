@@ -4,7 +4,6 @@ use Rattle.psy_draw.specs.Columns.{is_there}
 use Rattle.psy_draw.specs.Lanes.{message_values}
 use Rattle.psy_draw.specs.Planning.{Sent, Shown}
 use Rattle.psy_draw.specs.Sources.{place_in}
-use Rattle.psy_draw.proofs.Crowded.{one_more}
 use Rattle.psy_draw.proofs.Lanes.{added}
 use Rattle.psy_draw.proofs.plan.Plan.add_messages.Goals as goal
 
@@ -16,8 +15,5 @@ returns-clause-lanes c = λ notes draws.
     let source = c.args.source in
     let messages = message_values source.scale.now.from source.scale.now.to in
     let shown : Shown = record { name = c.args.name.now; silent = None; content = Sent (messages c.args.name.now notes) } in
-    added (place_in source) _ shown c.args.self.now.lanes.items c.add.new.self.lanes.items _ (sym c.is_asked.ensures ∙ c.if-not-is_asked.false)
-    c.in_default.ensures.lanes refl refl (c.in_ok-columns.ensures (place_in source) (is_there (place_in source)) (λ n. messages n notes) draws.streams)
-
-pub returns-in-Err-clause-full : goal.returns-in-Err-clause-full
-returns-in-Err-clause-full c = λ e notes draws. one_more _ _ _ _ (sym c.is_asked.ensures ∙ c.if-not-is_asked.false) (c.in-Err.ensures.full e)
+    added (place_in source) _ shown c.args.self.now.lanes.items c.push.new.self.items _ (sym c.is_asked.ensures ∙ c.if-not-is_asked.false)
+    c.in_ok-push.ensures.items refl refl (c.in_ok-columns.ensures (place_in source) (is_there (place_in source)) (λ n. messages n notes) draws.streams)

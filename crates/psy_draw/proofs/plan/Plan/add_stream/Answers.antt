@@ -9,9 +9,6 @@ use Rattle.psy_draw.proofs.plan.Plan.add_stream.Goals as goal
 pub returns-in-StreamEnd-clause-lanes : goal.returns-in-StreamEnd-clause-lanes
 returns-in-StreamEnd-clause-lanes c = rw c.in-StreamEnd.is c.add_messages.ensures.lanes
 
-pub returns-in-StreamEnd-clause-full : goal.returns-in-StreamEnd-clause-full
-returns-in-StreamEnd-clause-full c = rw c.in-StreamEnd.is c.add_messages.ensures.full
-
 pub add_messages-requires : goal.add_messages-requires
 add_messages-requires c = λ asked.
     let name = c.in-StreamEnd.stream.now in

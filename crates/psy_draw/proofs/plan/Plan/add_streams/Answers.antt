@@ -6,7 +6,6 @@ use Rattle.psy_draw.specs.Gathering.{asks_stream}
 use Rattle.psy_draw.specs.Planning.{AddsLanes}
 use Rattle.psy_draw.specs.Sources.{names_in, place_in, streams_of}
 use Rattle.psy_draw.proofs.Carrying.{carried, carried_all}
-use Rattle.psy_draw.proofs.Crowded.{beyond, lanes_within}
 use Rattle.psy_draw.proofs.Lanes.{adds_both, adds_none}
 use Rattle.psy_draw.proofs.plan.Plan.add_streams.Goals as goal
 
@@ -16,17 +15,13 @@ loop-note-init c = record { lanes = λ notes draws. adds_none (place_in c.args.s
 pub loop-note-preserved : goal.loop-note-preserved
 loop-note-preserved c = record {
   lanes = λ notes draws. carried (λ s. AddsLanes (place_in c.args.source) s c.args.self.now.lanes.items c.add_stream.new.self.lanes.items) (streams_of c.args.source notes) [] c.args.source.summary.now c.loop-note.note-index _ c.loop-note-test.true
-      (adds_both (place_in c.args.source) (flat_map (streams_of c.args.source notes) (take c.loop-note.note-index c.args.source.summary.now)) _ c.args.self.now.lanes.items c.loop-note.self.lanes.items c.add_stream.new.self.lanes.items (c.loop-note.invariant.lanes notes draws) (c.in_default.ensures.lanes notes draws));
-  inputs = ap (map (λ n. n.now)) c.in_default.ensures.inputs ∙ c.loop-note.invariant.inputs;
+      (adds_both (place_in c.args.source) (flat_map (streams_of c.args.source notes) (take c.loop-note.note-index c.args.source.summary.now)) _ c.args.self.now.lanes.items c.loop-note.self.lanes.items c.add_stream.new.self.lanes.items (c.loop-note.invariant.lanes notes draws) (c.in_ok-add_stream.ensures.lanes notes draws));
+  inputs = ap (map (λ n. n.now)) c.in_ok-add_stream.ensures.inputs ∙ c.loop-note.invariant.inputs;
 }
 
 pub returns-clause-lanes : goal.returns-clause-lanes
 returns-clause-lanes c = λ notes draws.
     carried_all (λ s. AddsLanes (place_in c.args.source) s c.args.self.now.lanes.items c.loop-note.self.lanes.items) (streams_of c.args.source notes) [] c.args.source.summary.now c.loop-note.note-index (omega (arith, c.loop-note-test.false)) (c.loop-note.invariant.lanes notes draws)
-
-pub returns-in-Err-clause-full : goal.returns-in-Err-clause-full
-returns-in-Err-clause-full c = λ e notes draws.
-    beyond _ _ _ (lanes_within (place_in c.args.source) (streams_of c.args.source notes) c.args.source.summary.now c.loop-note.note-index _ c.args.self.now.lanes.items c.loop-note.self.lanes.items c.loop-note-test.true (c.loop-note.invariant.lanes notes draws)) (c.in-Err.ensures.full e notes draws)
 
 pub add_stream-requires : goal.add_stream-requires
 add_stream-requires c = λ name asks.

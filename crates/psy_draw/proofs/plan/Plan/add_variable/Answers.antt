@@ -12,9 +12,6 @@ returns-in-VariableEnd-clause-lanes c = rw c.in-VariableEnd.is c.add_values.ensu
 pub returns-in-VariableEnd-clause-inputs : goal.returns-in-VariableEnd-clause-inputs
 returns-in-VariableEnd-clause-inputs c = rw c.in-VariableEnd.is c.add_values.ensures.inputs
 
-pub returns-in-VariableEnd-clause-full : goal.returns-in-VariableEnd-clause-full
-returns-in-VariableEnd-clause-full c = rw c.in-VariableEnd.is c.add_values.ensures.full
-
 pub add_values-requires : goal.add_values-requires
 add_values-requires c = λ asked.
     let name = c.in-VariableEnd.variable.now in

@@ -6,7 +6,6 @@ use Rattle.psy_draw.specs.Gathering.{asks_variable}
 use Rattle.psy_draw.specs.Planning.{AddsLanes}
 use Rattle.psy_draw.specs.Sources.{inputs_of, names_in, place_in, variables_of}
 use Rattle.psy_draw.proofs.Carrying.{carried, carried_all, named_more}
-use Rattle.psy_draw.proofs.Crowded.{lanes_within, many_more, names_within}
 use Rattle.psy_draw.proofs.Lanes.{adds_both, adds_none}
 use Rattle.psy_draw.proofs.plan.Plan.add_variables.Goals as goal
 
@@ -16,20 +15,14 @@ loop-note-init c = record { lanes = λ notes draws. adds_none (place_in c.args.s
 pub loop-note-preserved : goal.loop-note-preserved
 loop-note-preserved c = record {
   lanes = λ notes draws. carried (λ s. AddsLanes (place_in c.args.source) s c.args.self.now.lanes.items c.add_variable.new.self.lanes.items) (variables_of c.args.source notes) [] c.args.source.summary.now c.loop-note.note-index _ c.loop-note-test.true
-      (adds_both (place_in c.args.source) (flat_map (variables_of c.args.source notes) (take c.loop-note.note-index c.args.source.summary.now)) _ c.args.self.now.lanes.items c.loop-note.self.lanes.items c.add_variable.new.self.lanes.items (c.loop-note.invariant.lanes notes draws) (c.in_default.ensures.lanes notes draws));
+      (adds_both (place_in c.args.source) (flat_map (variables_of c.args.source notes) (take c.loop-note.note-index c.args.source.summary.now)) _ c.args.self.now.lanes.items c.loop-note.self.lanes.items c.add_variable.new.self.lanes.items (c.loop-note.invariant.lanes notes draws) (c.in_ok-add_variable.ensures.lanes notes draws));
   inputs = λ notes draws. named_more (λ n. n.now) (inputs_of c.args.source notes) c.args.source.summary.now c.loop-note.note-index _ c.args.self.now.inputs.items c.loop-note.self.inputs.items c.add_variable.new.self.inputs.items c.loop-note-test.true
-      (c.loop-note.invariant.inputs notes draws) (c.in_default.ensures.inputs notes draws);
+      (c.loop-note.invariant.inputs notes draws) (c.in_ok-add_variable.ensures.inputs notes draws);
 }
 
 pub returns-clause-lanes : goal.returns-clause-lanes
 returns-clause-lanes c = λ notes draws.
     carried_all (λ s. AddsLanes (place_in c.args.source) s c.args.self.now.lanes.items c.loop-note.self.lanes.items) (variables_of c.args.source notes) [] c.args.source.summary.now c.loop-note.note-index (omega (arith, c.loop-note-test.false)) (c.loop-note.invariant.lanes notes draws)
-
-pub returns-in-Err-clause-full : goal.returns-in-Err-clause-full
-returns-in-Err-clause-full c = λ e notes draws.
-    many_more _ _ _ _ (lanes_within (place_in c.args.source) (variables_of c.args.source notes) c.args.source.summary.now c.loop-note.note-index _ c.args.self.now.lanes.items c.loop-note.self.lanes.items c.loop-note-test.true (c.loop-note.invariant.lanes notes draws))
-    (names_within (λ n. n.now) (inputs_of c.args.source notes) c.args.source.summary.now c.loop-note.note-index _ c.args.self.now.inputs.items c.loop-note.self.inputs.items c.loop-note-test.true (c.loop-note.invariant.inputs notes draws))
-    (c.in-Err.ensures.full e notes draws)
 
 pub add_variable-requires : goal.add_variable-requires
 add_variable-requires c = λ name asks.

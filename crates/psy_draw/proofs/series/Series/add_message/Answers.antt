@@ -10,6 +10,6 @@ use Rattle.psy_draw.proofs.series.Series.add_message.Goals as goal
 pub returns-in-Some-clause-added : goal.returns-in-Some-clause-added
 returns-in-Some-clause-added c =
     let place = place_by c.args.scale.now in
-    let P : (List ℕ → List Dated) → Type 0 = λ more. OnOk c.add_message_of.result (AddsEach place (is_there place) more c.args.self.now c.add_message_of.new.self) in
+    let P : (List ℕ → List Dated) → Type 0 = λ more. OnOk c.add_told.result (AddsEach place (is_there place) more c.args.self.now c.add_told.new.self) in
     let told = λ (name : List ℕ). sym (ap (said_of name) c.in-Some.is) ∙ c.message_within.ensures name in
-    subst P (λ i name. told name i) c.add_message_of.ensures.added
+    subst P (λ i name. told name i) c.add_told.ensures.added

@@ -1,5 +1,5 @@
 -- What is left of the proof of `progress::Progress::take_lines`.
-use Rattle.std.proofs.Common.{◌≡◌, ◌∙◌, ◌+◌, inl, inr, sym, ap, refl, [], ◌∷◌, ◌++◌, append_assoc, arith}
+use Rattle.std.proofs.Common.{◌∙◌, ◌+◌, inl, inr, sym, ap, refl, [], ◌∷◌, ◌++◌, append_assoc, arith}
 use Rattle.psy_log.specs.Forms.{line_of}
 use Rattle.psy_notes.specs.Texts.{text_of}
 use Rattle.psy_passes.specs.declared.scan_fault.ScanFault.TheVariants as fault

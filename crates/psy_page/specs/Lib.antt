@@ -1,0 +1,4 @@
+-- The definitions of this crate, by subject.
+pub mod Spelling
+pub mod Templates
+pub mod Told

@@ -1,0 +1,2 @@
+-- Lemmas that crates above may use.
+pub mod OneFile

@@ -1,9 +1,0 @@
--- What is left of the proof of `agents::add_agents`.
-use Rattle.psy_report.specs.Agents.{agent_text}
-use Rattle.psy_feed.proofs.lemmas.Ranges.{line_more}
-use Rattle.psy_report.proofs.agents.add_agents.Goals as goal
-
-pub agents-preserved : goal.agents-preserved
-agents-preserved c =
-    line_more (agent_text c.args.unit.now c.args.measures.now) c.args.out.now.items c.agents.out.items c.add_agent.new.out.items c.agents.number
-    c.agents.invariant c.in_ok-add_agent.ensures

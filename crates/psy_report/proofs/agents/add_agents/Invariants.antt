@@ -1,8 +1,0 @@
--- What each loop of `agents::add_agents` keeps.
-use Rattle.std.proofs.Common.{◌≡◌, ◌++◌}
-use Rattle.psy_report.specs.Agents.{agent_text}
-use Rattle.psy_feed.proofs.lemmas.Ranges.{lines_below}
-use Rattle.psy_report.proofs.agents.add_agents.Given as goal
-
-abbrev pub invariant-agents : goal.invariant-agents
-invariant-agents l = l.out.items ≡ l.fn.out.items ++ lines_below (agent_text l.unit l.measures) l.number

@@ -1,6 +1,0 @@
--- What is left of the proof of `refusals::long_line`.
-use Rattle.std.proofs.lemmas.List.{append_assoc}
-use Rattle.psy_view.proofs.refusals.long_line.Goals as goal
-
-pub returns : goal.returns
-returns c = rw (← c.format.ensures.text, ← c.as_bytes-most.ensures.value, ← c.in_ok-name.ensures, ← c.as_slice.ensures.value) (simp append_assoc c.joined.ensures)
